@@ -1,0 +1,10 @@
+pub mod Places
+pub mod RowSteps
+pub mod AtCutoffs
+pub mod Totals
+pub mod Leaves
+pub mod Narrowing
+pub mod Walks
+pub mod WeightsAt
+pub mod WeightTests
+pub mod RightSides

@@ -1,0 +1,59 @@
+-- The weighted sum of right sides, weight by weight.
+use Rattle.std.proofs.Common.{◌≡◌, ℕ, ◌+◌, ◌*◌, ◌^◌, ◌≤◌, ◌<◌, ℤ, ◌+ℤ◌, ◌*ℤ◌, nat_abs, List, take, length, get_or, sym, ◌∙◌, ap, subst, arith, lit≤, to_z, of_z}
+use mir.Syntax.{w128}
+use mir.Val.{SFits}
+use Rattle.std.proofs.lemmas.Int.{ints}
+use Rattle.merlin_model.specs.Programs.{Program}
+use Rattle.merlin_model.specs.Trees.{row_of, weighted_right}
+use Rattle.merlin_model.specs.declared.certificate.Weight.{Weight}
+use Rattle.integer_program.proofs.Bounds.{IsWithin, within, within-add, within-more, total-more}
+use Rattle.certificate.proofs.RowSteps.{within-mul}
+use Rattle.certificate.proofs.Totals.{no_weight}
+
+pub record IsRight (program : Program) (weights : List Weight) (k : ℕ) (right : ℤ) : Type 0 where
+  pub is : right ≡ weighted_right program (take k weights)
+  pub small : IsWithin (k * 2 ^ 105) right
+
+pub record IsTerm (weight right amount : ℤ) : Type 0 where
+  pub is : amount ≡ weight *ℤ right
+  pub small : IsWithin (2 ^ 105) amount
+
+pub is-term : (weight right a b amount : ℤ) → IsWithin (2 ^ 60) weight → nat_abs right ≤ 2 ^ 45 → a ≡ weight → b ≡ right →
+    amount ≡ to_z w128 (of_z w128 (to_z w128 (of_z w128 a) *ℤ to_z w128 (of_z w128 b))) → IsTerm weight right amount
+is-term weight right a b amount w r e f h = record { is = is; small = subst (IsWithin (2 ^ 105)) (sym is) (within-more (2 ^ 60 * 2 ^ 45) (2 ^ 105) _ (lit≤ tt) bound) }
+  where
+    size : IsWithin (2 ^ 45) right
+    size = within (2 ^ 45) right r
+
+    bound : IsWithin (2 ^ 60 * 2 ^ 45) (weight *ℤ right)
+    bound = within-mul (2 ^ 60) (2 ^ 45) weight right w size
+
+    left_is : to_z w128 (of_z w128 a) ≡ weight
+    left_is = omega (arith, ints)
+
+    right_is : to_z w128 (of_z w128 b) ≡ right
+    right_is = omega (arith, ints)
+
+    whole : (product : ℤ) → IsWithin (2 ^ 60 * 2 ^ 45) product → to_z w128 (of_z w128 product) ≡ product
+    whole product p = omega (arith, ints)
+
+    is : amount ≡ weight *ℤ right
+    is = h ∙ ap (λ z. to_z w128 (of_z w128 (z *ℤ to_z w128 (of_z w128 b)))) left_is ∙ ap (λ z. to_z w128 (of_z w128 (weight *ℤ z))) right_is ∙ whole (weight *ℤ right) bound
+
+pub right_more : (program : Program) (weights : List Weight) (k : ℕ) (before after amount : ℤ) → k < length weights → IsRight program weights k before →
+    IsTerm (get_or weights k no_weight).weight (row_of program (get_or weights k no_weight)).right amount → after ≡ before +ℤ amount → IsRight program weights (k + 1) after
+right_more program weights k before after amount h is term e = record {
+  is = e ∙ ap (λ z. before +ℤ z) term.is ∙ ap (λ z. z +ℤ ((get_or weights k no_weight).weight *ℤ (row_of program (get_or weights k no_weight)).right)) is.is
+      ∙ sym (total-more (λ w. w.weight *ℤ (row_of program w).right) weights k no_weight h);
+  small = subst (IsWithin ((k + 1) * 2 ^ 105)) (sym e) (within-more (k * 2 ^ 105 + 2 ^ 105) ((k + 1) * 2 ^ 105) _ (omega arith) (within-add (k * 2 ^ 105) (2 ^ 105) before amount is.small term.small));
+}
+
+-- a term more fits, and the code's sum is the sum
+pub term_fits : (n : ℕ) (before amount : ℤ) → n ≤ 16384 → IsWithin (n * 2 ^ 105) before → IsWithin (2 ^ 105) amount → SFits w128 (before +ℤ amount)
+term_fits n before amount few b a = omega (arith, ints)
+
+pub term_sum : (n : ℕ) (before amount : ℤ) → n ≤ 16384 → IsWithin (n * 2 ^ 105) before → IsWithin (2 ^ 105) amount → to_z w128 (of_z w128 (before +ℤ amount)) ≡ before +ℤ amount
+term_sum n before amount few b a = omega (arith, ints)
+
+pub sum_fits : (n : ℕ) (sum : ℤ) → n ≤ 16384 → IsWithin (n * 2 ^ 105) sum → SFits w128 sum
+sum_fits n sum few small = omega (arith, ints)

@@ -1,0 +1,4 @@
+pub mod Adding
+pub mod Weights
+pub mod Answers
+pub mod Narrowed

@@ -1,0 +1,112 @@
+-- Reading the nodes of a tree, and where it goes wrong.
+use Rattle.std.proofs.Common.{◌≡◌, ℕ, ◌+◌, ◌-◌, ◌^◌, ◌≤◌, ◌<◌, inr, List, [], ◌∷◌, ◌++◌, length, Result, Ok, Err, IfErr, IsErrAnd, sym, ◌∙◌, ap, subst, append_assoc, append-nil, arith}
+use Rattle.merlin_model.specs.declared.certificate.Tree.{Tree, Leaf, Split, Split', Unclosed, end_of-Tree, more_of-Tree}
+use Rattle.merlin_model.specs.Trees.{Node, Leaf_node, Split_node, Open_end}
+use Rattle.certificate_text.specs.declared.fault.LineFault.{LineFault}
+use Rattle.certificate_text.specs.declared.fault.LineFault.TheVariants.{Wrong, Memory}
+use Rattle.certificate_text.specs.Faults.{IsWholeLines}
+use Rattle.certificate_text.specs.TreeTexts.{node_line, IsNodeLine, nodes_in, node_lines, IsWithin}
+use Rattle.certificate_text.specs.Outcomes.{IsFault, GoesWrong}
+use Rattle.certificate_text.proofs.NodeLines.{node_front, front_free, line_behind, line_once, line_is}
+use Rattle.certificate_text.proofs.NodeTexts.{root, later, lines_are, AreLines, root_line, split_lines, halves, some_node, split_count, node_lines-Split, tree_once, lines_whole, split_is}
+use Rattle.certificate_text.proofs.WrongLines.{line_wrong, lift_wrong, whole_lines}
+
+-- the error of a `?`
+pub err_to : {X : Type 0} (P : LineFault → Type 0) (r : Result X LineFault) (f : LineFault) → IsErrAnd r (λ e. e ≡ f) → P f → IfErr r P
+err_to P (Ok x) f h p = tt
+err_to P (Err e) f h p = subst P (sym h) p
+
+first_of : (t : Tree) → node_lines t ≡ node_front (root t) ++ 10 ∷ later t
+first_of t = lines_are t ∙ line_behind (root t) (later t)
+
+pub one_end : (spare : ℕ) → IsWithin (spare + 1) Unclosed
+one_end spare = record { few = omega arith; each = (tt, tt) }
+
+pub line_fault : (spare : ℕ) (text : List ℕ) (f : LineFault) → IsFault (λ left. (left ≡ length text) × ((node : Node) (rest : List ℕ) → IsNodeLine node → text ≡ node_line node ++ rest → ⊥)) f → IsFault (GoesWrong node_lines (IsWithin (spare + 1)) text) f
+line_fault spare text (Wrong left) h = subst (GoesWrong node_lines (IsWithin (spare + 1)) text) (sym h.0)
+    (line_wrong node_lines (IsWithin (spare + 1)) (λ t. node_front (root t)) later text Unclosed (one_end spare) first_of (λ t is. front_free (root t) (root_line t is.each))
+    (λ t rest is e. h.1 (root t) rest (root_line t is.each) (e ∙ sym (line_behind (root t) rest))))
+line_fault spare text Memory h = tt
+
+three : (t : Tree) (v : ℕ) → root t ≡ Split_node v → 3 ≤ length (nodes_in t)
+three (Leaf ws) v e = absurd (let no_way : Leaf_node ws ≡ Split_node v → ⊥ = λ h. cc in no_way e)
+three (Split' u s (more_of-Tree low end_of-Tree) t (more_of-Tree high end_of-Tree)) v e =
+    subst (λ w. 3 ≤ length (nodes_in w)) (sym (split_is u low high s t)) (let n = split_count u low high in let a = some_node low in let b = some_node high in omega arith)
+three Unclosed v e = absurd (let no_way : Open_end ≡ Split_node v → ⊥ = λ h. cc in no_way e)
+
+pub too_many : (spare v : ℕ) (text rest : List ℕ) → spare < 2 → v < 10 ^ 19 → text ≡ node_line (Split_node v) ++ rest → GoesWrong node_lines (IsWithin (spare + 1)) text (length text)
+too_many spare v text rest few is e =
+    line_wrong node_lines (IsWithin (spare + 1)) (λ t. node_front (root t)) later text Unclosed (one_end spare) first_of (λ t w. front_free (root t) (root_line t w.each))
+    (λ t r w h.
+    let same = line_once (root t) (Split_node v) r rest (root_line t w.each) is (line_behind (root t) r ∙ sym h ∙ e) in
+    let n = three t v same.node in let m = w.few in omega arith)
+
+-- A tree whose text begins with a split's line is a split.
+pub record IsSplit (t : Tree) (v : ℕ) (x u : List ℕ) : Type 0 where
+  pub low : Tree
+  pub high : Tree
+  pub is : t ≡ Split v low high
+  pub rest : node_lines low ++ (node_lines high ++ x) ≡ u
+
+pub split_down : (t : Tree) (v : ℕ) (x u : List ℕ) → AreLines t → v < 10 ^ 19 → node_lines t ++ x ≡ node_line (Split_node v) ++ u → IsSplit t v x u
+split_down (Leaf ws) v x u all is e =
+    let l = line_once (Leaf_node ws) (Split_node v) x u all.0 is (sym (append_assoc (node_line (Leaf_node ws)) [] x) ∙ e) in absurd (let no_way : Leaf_node ws ≡ Split_node v → ⊥ = λ h. cc in no_way l.node)
+split_down Unclosed v x u all is e =
+    let l = line_once Open_end (Split_node v) x u tt is (sym (append_assoc (node_line Open_end) [] x) ∙ e) in absurd (let no_way : Open_end ≡ Split_node v → ⊥ = λ h. cc in no_way l.node)
+split_down (Split' w s (more_of-Tree low end_of-Tree) r (more_of-Tree high end_of-Tree)) v x u all is e =
+    let t = Split' w s (more_of-Tree low end_of-Tree) r (more_of-Tree high end_of-Tree) in
+    let l = line_once (Split_node w) (Split_node v) ((node_lines low ++ node_lines high) ++ x) u (root_line (Split' w s (more_of-Tree low end_of-Tree) r (more_of-Tree high end_of-Tree)) all) is
+    (sym (append_assoc (node_line (Split_node w)) (node_lines low ++ node_lines high) x) ∙ ap (λ z. z ++ x) (sym (lines_are (Split' w s (more_of-Tree low end_of-Tree) r (more_of-Tree high end_of-Tree)))) ∙ e) in
+    let same : w ≡ v = (let n = l.node in cc) in
+    record { low = low; high = high; is = split_is w low high s r ∙ ap (λ k. Split k low high) same; rest = sym (append_assoc (node_lines low) (node_lines high) x) ∙ l.rest }
+
+line_whole : (n : Node) → IsWholeLines (node_line n)
+line_whole n = inr (node_front n, line_is n)
+
+pub low_wrong : (spare v : ℕ) (text rest : List ℕ) (f : LineFault) → 2 ≤ spare → v < 10 ^ 19 → text ≡ node_line (Split_node v) ++ rest → IsFault (GoesWrong node_lines (IsWithin (spare - 2 + 1)) rest) f →
+    IsFault (GoesWrong node_lines (IsWithin (spare + 1)) text) f
+low_wrong spare v text rest Memory room is e h = tt
+low_wrong spare v text rest (Wrong left) room is e h =
+    lift_wrong node_lines (IsWithin (spare + 1)) node_lines (IsWithin (spare - 2 + 1)) (node_line (Split_node v)) rest text left (line_whole (Split_node v)) e up down h
+  where
+    up : (w : Tree) → IsWithin (spare - 2 + 1) w → (t : Tree) × IsWithin (spare + 1) t × (more : List ℕ) × (node_lines t ≡ node_line (Split_node v) ++ (node_lines w ++ more))
+    up w k = (
+      Split v w Unclosed,
+      record { few = let n = split_count v w Unclosed in let m = k.few in omega arith; each = split_lines v w Unclosed is k.each (tt, tt) },
+      node_lines Unclosed,
+      node_lines-Split v w Unclosed,
+    )
+
+    down : (t : Tree) (x u : List ℕ) → IsWithin (spare + 1) t → node_lines t ++ x ≡ node_line (Split_node v) ++ u → (w : Tree) × IsWithin (spare - 2 + 1) w × (y : List ℕ) × (node_lines w ++ y ≡ u)
+    down t x u k g =
+        let s = split_down t v x u k.each is g in
+        let hs = halves v s.low s.high (subst AreLines s.is k.each) in
+        (s.low, record { few = (let n = split_count v s.low s.high in let m = k.few in let c = ap (λ z. length (nodes_in z)) s.is in let b = some_node s.high in omega arith); each = hs.is_low }, node_lines s.high ++ x, s.rest)
+
+pub high_wrong : (spare left_over v : ℕ) (zero' : Tree) (text rest behind : List ℕ) (f : LineFault) → 2 ≤ spare → v < 10 ^ 19 → text ≡ node_line (Split_node v) ++ rest → rest ≡ node_lines zero' ++ behind → left_over + length (nodes_in zero') ≡ spare - 2 + 1 → AreLines zero' →
+    IsFault (GoesWrong node_lines (IsWithin (left_over + 1)) behind) f → IsFault (GoesWrong node_lines (IsWithin (spare + 1)) text) f
+high_wrong spare left_over v zero' text rest behind Memory room is e g count lines h = tt
+high_wrong spare left_over v zero' text rest behind (Wrong left) room is e g count lines h =
+    lift_wrong node_lines (IsWithin (spare + 1)) node_lines (IsWithin (left_over + 1)) (node_line (Split_node v) ++ node_lines zero') behind text left
+    (whole_lines (node_line (Split_node v)) (node_lines zero') (line_whole (Split_node v)) (lines_whole zero')) (e ∙ ap (λ z. node_line (Split_node v) ++ z) g ∙ sym (append_assoc (node_line (Split_node v)) (node_lines zero') behind)) up down h
+  where
+    up : (w : Tree) → IsWithin (left_over + 1) w → (t : Tree) × IsWithin (spare + 1) t × (more : List ℕ) × (node_lines t ≡ (node_line (Split_node v) ++ node_lines zero') ++ (node_lines w ++ more))
+    up w k = (
+      Split v zero' w,
+      record { few = let n = split_count v zero' w in let m = k.few in omega arith; each = split_lines v zero' w is lines k.each },
+      [],
+      node_lines-Split v zero' w ∙ sym (append_assoc (node_line (Split_node v)) (node_lines zero') (node_lines w)) ∙ ap (λ z. (node_line (Split_node v) ++ node_lines zero') ++ z) (sym (append-nil (node_lines w))),
+    )
+
+    down : (t : Tree) (x u : List ℕ) → IsWithin (spare + 1) t → node_lines t ++ x ≡ (node_line (Split_node v) ++ node_lines zero') ++ u → (w : Tree) × IsWithin (left_over + 1) w × (y : List ℕ) × (node_lines w ++ y ≡ u)
+    down t x u k p =
+        let s = split_down t v x (node_lines zero' ++ u) k.each is (p ∙ append_assoc (node_line (Split_node v)) (node_lines zero') u) in
+        let hs = halves v s.low s.high (subst AreLines s.is k.each) in
+        let same = tree_once s.low zero' (node_lines s.high ++ x) u hs.is_low lines s.rest in
+        (s.high, record { few = (let n = split_count v s.low s.high in let m = k.few in let c = ap (λ z. length (nodes_in z)) s.is in let b = ap (λ z. length (nodes_in z)) same.tree in omega arith); each = hs.is_high }, x, same.rest)
+
+-- the whole split
+pub split_text : (v : ℕ) (low high tree : Tree) (text rest behind more : List ℕ) → text ≡ node_line (Split_node v) ++ rest → rest ≡ node_lines low ++ behind → behind ≡ node_lines high ++ more → tree ≡ Split v low high → text ≡ node_lines tree ++ more
+split_text v low high tree text rest behind more e f g h =
+    e ∙ ap (λ z. node_line (Split_node v) ++ z) (f ∙ ap (λ z. node_lines low ++ z) g ∙ sym (append_assoc (node_lines low) (node_lines high) more)) ∙ sym (append_assoc (node_line (Split_node v)) (node_lines low ++ node_lines high) more)
+    ∙ ap (λ z. z ++ more) (sym (ap node_lines h ∙ node_lines-Split v low high))

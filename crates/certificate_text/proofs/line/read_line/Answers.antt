@@ -1,0 +1,6 @@
+use Rattle.std.proofs.Common.{refl}
+use Rattle.certificate_text.proofs.NodeLines.{no_node}
+use Rattle.certificate_text.proofs.line.read_line.Goals as goal
+
+pub returns : goal.returns
+returns c = record { ok = tt; err = (refl, no_node c.args.text.now c.in_default.ensures.none c.in_default-after.ensures.none c.in_default-after-2.ensures.none) }

@@ -1,0 +1,7 @@
+use Rattle.std.proofs.Common.{◌≡◌, ◌++◌, map, take, string_bytes}
+use Rattle.certificate_text.specs.Pairs.{pairs_text}
+use Rattle.certificate_text.specs.TreeTexts.{pair_of}
+use Rattle.certificate_text.proofs.tree.print_weights.Given as goal
+
+abbrev pub invariant-loop-w : goal.invariant-loop-w
+invariant-loop-w l = string_bytes l.out ≡ string_bytes l.fn.out ++ pairs_text (map pair_of (take l.w-index l.weights))

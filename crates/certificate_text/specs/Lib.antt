@@ -1,0 +1,7 @@
+pub mod Pairs
+pub mod Faults
+pub mod TreeTexts
+pub mod ProgramTexts
+pub mod Outcomes
+pub mod TreeAnswers
+pub mod ProgramAnswers

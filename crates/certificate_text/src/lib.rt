@@ -1,0 +1,13 @@
+//! Refuting trees and plain programs as texts.
+#![tactic(auto)]
+
+mod cuts;
+mod fault;
+mod line;
+mod numbers;
+mod pairs;
+mod program;
+mod tree;
+
+pub use program::{ProgramTextFault, read_program};
+pub use tree::{TreeTextFault, print_tree, read_tree};

@@ -1,0 +1,142 @@
+//! Trees as texts.
+
+ghost use Rattle.std.specs.Prelude.{ℕ, ◌≡◌, ◌≤◌, ◌<◌, ◌+◌, ◌-◌, ◌^◌, ◌++◌, List, length, map, Ok, string_bytes, IfOk, IfErr, OnOk, Option, Bool};
+ghost use Rattle.std.specs.List.{AllByRecursion};
+ghost use Rattle.merlin_model.specs.declared.certificate.Tree.{Tree};
+ghost use Rattle.merlin_model.specs.Trees.{nodes_of};
+ghost use Rattle.certificate_text.specs.Faults.{IsFirstWrongLine};
+ghost use Rattle.certificate_text.specs.Pairs.{pairs_text};
+ghost use Rattle.certificate_text.specs.TreeTexts.{pair_of, node_lines, nodes_in, tree_text, IsNodeLine, IsWithin, IsTreeText};
+ghost use Rattle.certificate_text.specs.Outcomes.{IsFault, GoesWrong};
+ghost use Rattle.certificate_text.specs.TreeAnswers.{IsTreeFault};
+
+use crate::cuts::after;
+use crate::fault::LineFault;
+use crate::line::{Line, read_line};
+use certificate::{Tree, Weight};
+use merlin_model::{Name, OutOfMemory, name_from};
+use sqlite_items::Boxed;
+use std::alloc::{AllocError, Global};
+
+/// Beside the one that a tree has at least, so many nodes may stand in a text.
+const FURTHER_NODES: usize = 4095;
+
+/// Why a text is no tree: the start of the first line with which no tree goes on, or the length where lines are missing.
+#[derive(Clone, Copy)]
+pub enum TreeTextFault {
+    BadTree { at: usize },
+    OutOfMemory,
+}
+
+fn split(alloc: Global, variable: usize, zero: Tree, one: Tree) -> Result<Tree, AllocError>
+    ensures { IfOk result (λ tree. tree ≡ Tree.Split variable zero one) }
+{
+    Ok(Tree::Split {
+        variable,
+        zero: Boxed::new(alloc, zero)?,
+        one: Boxed::new(alloc, one)?,
+    })
+}
+
+/// The tree with which the text begins, what stands behind it, and how many more nodes may follow those that are owed.
+fn read_nodes(alloc: Global, text: &[u8], spare: usize) -> Result<(Tree, &[u8], usize), LineFault>
+    ensures text { IfOk result (λ r. text.now ≡ node_lines r.0 ++ r.1.now) }
+    ensures spare { IfOk result (λ r. r.2 + length (nodes_in r.0) ≡ spare + 1) }
+    ensures each { IfOk result (λ r. AllByRecursion IsNodeLine (nodes_in r.0)) }
+    ensures err { IfErr result (IsFault (GoesWrong node_lines (IsWithin (spare + 1)) text.now)) }
+{
+    let (line, rest) = read_line(alloc, text)?;
+    match line {
+        Line::Leaf(weights) => Ok((Tree::Leaf(weights), rest, spare)),
+        Line::Open => Ok((Tree::Unclosed, rest, spare)),
+        Line::Split(variable) => {
+            if spare < 2 {
+                return Err(LineFault::Wrong(text.len()));
+            }
+            let (zero, rest, spare) = read_nodes(alloc, rest, spare - 2)?;
+            let (one, rest, spare) = read_nodes(alloc, rest, spare)?;
+            Ok((split(alloc, variable, zero, one)?, rest, spare))
+        }
+    }
+}
+
+/// The tree that stands between the first line and the last.
+fn read_whole_tree(alloc: Global, text: &[u8]) -> Result<Tree, LineFault>
+    ensures ok { IfOk result (λ tree. (text.now ≡ tree_text tree) × IsTreeText tree) }
+    ensures err { IfErr result (IsFault (λ left. (left ≤ length text.now) × IsFirstWrongLine tree_text IsTreeText text.now (length text.now - left))) }
+{
+    let Some(nodes) = after(text, b"tree\n") else {
+        return Err(LineFault::Wrong(text.len()));
+    };
+    let (tree, rest, _spare) = read_nodes(alloc, nodes, FURTHER_NODES)?;
+    let Some(more) = after(rest, b"end\n") else {
+        return Err(LineFault::Wrong(rest.len()));
+    };
+    if more.is_empty() {
+        Ok(tree)
+    } else {
+        Err(LineFault::Wrong(more.len()))
+    }
+}
+
+/// The tree that a text stands for. Where it is none, the fault is at the start of the first line with which no tree goes on.
+pub fn read_tree(alloc: Global, bytes: &[u8]) -> Result<Tree, TreeTextFault>
+    ensures ok { IfOk result (λ tree. (bytes.now ≡ tree_text tree) × IsTreeText tree) }
+    ensures few { IfOk result (λ tree. (box : List (Option Bool)) → length (nodes_of tree box) ≤ 4096) }
+    ensures only { (tree : Tree) → IsTreeText tree → bytes.now ≡ tree_text tree → OnOk result (result ≡ Ok tree) }
+    ensures err { IfErr result (IsTreeFault bytes.now) }
+{
+    match read_whole_tree(alloc, bytes) {
+        Ok(tree) => Ok(tree),
+        Err(LineFault::Wrong(left)) => Err(TreeTextFault::BadTree {
+            at: bytes.len() - left,
+        }),
+        Err(LineFault::Memory) => Err(TreeTextFault::OutOfMemory),
+    }
+}
+
+/// Adds weights to the end of a line.
+fn print_weights(out: &mut String, weights: &[Weight]) -> Result<(), AllocError>
+    ensures { OnOk result (string_bytes out.new ≡ string_bytes out.old ++ pairs_text (map pair_of weights.now)) }
+{
+    for w in weights {
+        let row = w.row;
+        let weight = w.weight;
+        write!(out, " {row}:{weight}")?;
+    }
+    Ok(())
+}
+
+/// Adds the lines of the nodes.
+fn print_nodes(out: &mut String, tree: &Tree) -> Result<(), AllocError>
+    ensures { OnOk result (string_bytes out.new ≡ string_bytes out.old ++ node_lines tree.now) }
+{
+    match tree {
+        Tree::Leaf(weights) => {
+            out.push_str("leaf")?;
+            print_weights(out, weights.as_slice())?;
+            out.push_str("\n")
+        }
+        Tree::Split {
+            variable,
+            zero,
+            one,
+        } => {
+            write!(out, "split {variable}\n")?;
+            print_nodes(out, zero.get())?;
+            print_nodes(out, one.get())
+        }
+        Tree::Unclosed => out.push_str("open\n"),
+    }
+}
+
+/// The text of a tree. It is read back where the tree is within the limits.
+pub fn print_tree(alloc: Global, tree: &Tree) -> Result<Name, OutOfMemory>
+    ensures { IfOk result (λ name. name ≡ tree_text tree.now) }
+{
+    let mut out = String::new(alloc);
+    out.push_str("tree\n")?;
+    print_nodes(&mut out, tree)?;
+    out.push_str("end\n")?;
+    name_from(alloc, out.as_bytes())
+}

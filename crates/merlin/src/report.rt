@@ -1,0 +1,136 @@
+// The lines of an answer.
+ghost use Rattle.std.specs.Prelude.{◌≡◌, ◌++◌, ◌∷◌, [], codes, IfOk};
+ghost use Rattle.config_text.specs.Words.{line as line_text};
+ghost use Rattle.config_text.specs.Result.{value_text, objective_word};
+ghost use Rattle.merlin.specs.Answer.{IsPrintable};
+ghost use Rattle.merlin.specs.Report.{refusal_text, head_lines, leaf_lines, compiled_lines, lines_of as lines_of_answer, status_of as status_of_answer};
+
+use crate::answer::{Answer, Refusal};
+use crate::compile::Compiled;
+use config_text::print;
+use merlin_base::{Name, OutOfMemory, Status, name_from};
+use merlin_model::policy::{Objective, Value};
+use std::alloc::Global;
+
+// The text with a newline.
+fn line(alloc: Global, text: &str) -> Result<Name, OutOfMemory>
+    ensures { IfOk result (λ name. name ≡ line_text text.now) }
+{
+    let text = format!(in alloc; "{text}\n")?;
+    name_from(alloc, text.as_bytes())
+}
+
+fn objective_name(objective: Objective) -> &'static str
+    ensures { result.now ≡ objective_word objective }
+{
+    match objective {
+        Objective::Shortest => "shortest",
+        Objective::Ratio => "ratio",
+        Objective::Reserved => "reserved",
+    }
+}
+
+fn objective_line(alloc: Global, objective: Objective, value: Value) -> Result<Name, OutOfMemory>
+    ensures { IfOk result (λ name. name ≡ line_text (codes "objective " ++ (objective_word objective ++ (codes " " ++ value_text value)))) }
+{
+    let objective = objective_name(objective);
+    let text = match value {
+        Value::Whole(number) => format!(in alloc; "objective {objective} {number}")?,
+        Value::Ratio { load, capacity } => {
+            format!(in alloc; "objective {objective} {load}/{capacity}")?
+        }
+    };
+    line(alloc, &text)
+}
+
+// The first lines of a result.
+fn head(alloc: Global, objective: Objective, value: Value) -> Result<Vec<Name>, OutOfMemory>
+    ensures { IfOk result (λ lines. lines.items ≡ head_lines objective value) }
+{
+    let mut lines = Vec::new(alloc);
+    lines.push(line(alloc, "merlin 1 ok")?)?;
+    lines.push(objective_line(alloc, objective, value)?)?;
+    Ok(lines)
+}
+
+// The certificate of one leaf on the row after those of the directed links.
+fn certificate(alloc: Global, rows: usize) -> Result<Vec<Name>, OutOfMemory>
+    ensures { IfOk result (λ lines. lines.items ≡ leaf_lines rows) }
+{
+    let weight = 1u64;
+    let mut lines = Vec::new(alloc);
+    lines.push(line(alloc, "tree")?)?;
+    let leaf = format!(in alloc; "leaf {rows}:{weight}")?;
+    lines.push(line(alloc, &leaf)?)?;
+    lines.push(line(alloc, "end")?)?;
+    Ok(lines)
+}
+
+// The lines of a result: the head, the configuration and the certificate.
+fn result_of(alloc: Global, compiled: &Compiled) -> Result<Vec<Name>, OutOfMemory>
+    requires { IsPrintable (Answer.Done compiled.now) }
+    ensures { IfOk result (λ lines. lines.items ≡ compiled_lines compiled.now) }
+{
+    let rows = 2 * compiled.net.links().len();
+    let mut lines = head(alloc, compiled.objective, compiled.value)?;
+    lines.append(&mut print(alloc, &compiled.config, &compiled.net)?)?;
+    lines.append(&mut certificate(alloc, rows)?)?;
+    Ok(lines)
+}
+
+const USAGE: &str =
+    "usage: compile POLICY TOPOLOGY shortest|ratio|reserved [BUDGET]; check POLICY TOPOLOGY RESULT; trace TOPOLOGY RESULT HOST PACKET; refine PARENT CHILD TOPOLOGY; refute PROGRAM TREE; grow N";
+
+fn refusal(refusal: Refusal) -> &'static str
+    ensures { result.now ≡ refusal_text refusal }
+{
+    match refusal {
+        Refusal::TopologyJson => "refused: topology json",
+        Refusal::Unbuilt => "refused: unbuilt",
+    }
+}
+
+fn one_line(alloc: Global, text: &str) -> Result<Vec<Name>, OutOfMemory>
+    ensures { IfOk result (λ lines. lines.items ≡ line_text text.now ∷ []) }
+{
+    let mut lines = Vec::new(alloc);
+    lines.push(line(alloc, text)?)?;
+    Ok(lines)
+}
+
+fn too_long(alloc: Global, name: &Name) -> Result<Vec<Name>, OutOfMemory>
+    ensures { IfOk result (λ lines. lines.items ≡ line_text (codes "refused: too long " ++ name.now) ∷ []) }
+{
+    let mut text = Vec::from_slice(alloc, b"refused: too long ")?;
+    text.extend_from_slice(name.bytes())?;
+    text.push(b'\n')?;
+    let mut lines = Vec::new(alloc);
+    lines.push(name_from(alloc, &text)?)?;
+    Ok(lines)
+}
+
+/// The lines of an answer, each with its newline.
+pub fn lines_of(alloc: Global, answer: &Answer) -> Result<Vec<Name>, OutOfMemory>
+    requires { IsPrintable answer.now }
+    ensures { IfOk result (λ lines. lines.items ≡ lines_of_answer answer.now) }
+{
+    match answer {
+        Answer::Usage => one_line(alloc, USAGE),
+        Answer::ReadFault => one_line(alloc, "fault: read"),
+        Answer::TooLong(name) => too_long(alloc, name),
+        Answer::Refused(reason) => one_line(alloc, refusal(*reason)),
+        Answer::Done(compiled) => result_of(alloc, compiled),
+    }
+}
+
+/// How a run ends with this answer.
+pub fn status_of(answer: &Answer) -> Status
+    ensures { result ≡ status_of_answer answer.now }
+{
+    match answer {
+        Answer::Usage => Status::Usage,
+        Answer::ReadFault => Status::ReadFault,
+        Answer::TooLong(_) | Answer::Refused(_) => Status::Refused,
+        Answer::Done(_) => Status::Done,
+    }
+}

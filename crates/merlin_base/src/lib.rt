@@ -1,0 +1,22 @@
+//! What every crate stands on: statuses, files and sinks whose faults are counted, single lexemes, and the texts of addresses.
+#![tactic(auto)]
+
+mod addresses;
+mod lexemes;
+mod memory;
+mod outside;
+mod status;
+mod system;
+mod transfer;
+
+pub use addresses::{ip_text, mac_text};
+pub use lexemes::{
+    ip_value, is_digit, is_identifier, is_letter, is_name, is_name_byte, mac_value, rate_value,
+    read_decimal,
+};
+pub use memory::{MemoryFiles, MemorySink, SureFiles, SureSink};
+pub use merlin_model::{Name, OutOfMemory, name_from};
+pub use outside::{Files, OutsideFault, Sink};
+pub use status::Status;
+pub use system::{StdFiles, StdSink};
+pub use transfer::{ReadFail, read_all, write_all, write_lines};

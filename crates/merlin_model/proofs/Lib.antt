@@ -1,0 +1,12 @@
+pub mod Members
+pub mod Wires
+pub mod Matching
+pub mod WordLaws
+pub mod Traces
+pub mod Acting
+pub mod ActsAt
+pub mod Fitting
+pub mod Ascending
+pub mod ShareLaws
+pub mod Sums
+pub mod Refuting

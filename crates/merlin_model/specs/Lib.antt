@@ -1,0 +1,13 @@
+pub mod Packets
+pub mod Predicates
+pub mod Networks
+pub mod Words
+pub mod Paths
+pub mod Policies
+pub mod Rates
+pub mod Assignments
+pub mod Machine
+pub mod Programs
+pub mod Trees
+pub mod Headline
+pub mod Tests

@@ -1,0 +1,5 @@
+pub mod Values
+pub mod Parts
+pub mod ValueTexts
+pub mod Faults
+pub mod Printed

@@ -1,0 +1,5 @@
+pub mod Best
+pub mod Runs
+pub mod Wired
+pub mod Seen
+pub mod Reading

@@ -1,0 +1,94 @@
+use Rattle.std.proofs.Common.{◌≡◌, ℕ, Bool, List, length, map, Result, Ok, Err, sym, ◌∙◌, subst}
+use Rattle.std.specs.Result.{IsErrAnd}
+use Rattle.merlin_model.specs.declared.policy.Symbol.{Symbol}
+use Rattle.merlin_model.specs.declared.policy.Path.{Path}
+use Rattle.path_regex.specs.Normal.{normal_of}
+use Rattle.path_regex.specs.Derivatives.{takes_empty}
+use Rattle.path_regex.specs.Functions.{HasNoFunctionUnderNot}
+use Rattle.path_automaton.specs.declared.classes.Classes.{Classes}
+use Rattle.path_automaton.specs.declared.exploring.Explored.{Explored}
+use Rattle.path_automaton.specs.declared.fault.AutomatonFault.{AutomatonFault}
+use Rattle.path_automaton.specs.declared.fault.AutomatonFault.TheVariants.{TooManyStates, OutOfMemory}
+use Rattle.path_automaton.specs.Classes.{AreClasses}
+use Rattle.path_automaton.specs.Followed.{AreExploring, IsExplored, HasMany}
+use Rattle.path_automaton.specs.Living.{AreInside, AreLiving}
+use Rattle.path_automaton.specs.Automata.{Tables, IsAutomatonOf, AreTablesOf}
+use Rattle.path_automaton.specs.Inside.{tables_of, AreWhole}
+use Rattle.path_automaton.specs.Built.{IsBuilt}
+use Rattle.path_automaton.proofs.Building.{too_many-states}
+use Rattle.path_automaton.proofs.Tables.{inside, is-whole, tables-are, is-automaton}
+use Rattle.path_automaton.proofs.automaton.build.Goals as goal
+
+-- what was found, in the words of the path and its classes
+abbrev AreFound : Path → Classes → Explored → Type 0
+AreFound path c e = AreExploring (normal_of path) c.firsts e.states e.rows × (length e.rows ≡ length e.states)
+
+found : (path form : Path) (c : Classes) (firsts : List Symbol) (e : Explored) → form ≡ normal_of path → firsts ≡ c.firsts → IsExplored form firsts (Ok e) → AreFound path c e
+found path form c firsts e f s h = subst (λ a. AreExploring a c.firsts e.states e.rows × (length e.rows ≡ length e.states)) f (subst (λ l. AreExploring form l e.states e.rows × (length e.rows ≡ length e.states)) s h)
+
+-- a fault that is passed on
+passed : (path form : Path) (symbols : List Symbol) (c : Classes) (firsts : List Symbol) → AreClasses path symbols c → form ≡ normal_of path → firsts ≡ c.firsts → (e : AutomatonFault) → IsExplored form firsts (Err e) →
+    (r : Result Tables AutomatonFault) → IsErrAnd r (λ f. f ≡ e) → IsBuilt path symbols r
+passed path form symbols c firsts are f s e h (Ok x) i = absurd i
+passed path form symbols c firsts are f s (TooManyStates count) h (Err g) i =
+    subst (λ fault. IsBuilt path symbols (Err fault)) (sym i)
+    (h.0, too_many-states path symbols c are count (subst (λ a. HasMany a c.firsts count) f (subst (λ l. HasMany form l count) s h.1)))
+passed path form symbols c firsts are f s OutOfMemory h (Err g) i = subst (λ fault. IsBuilt path symbols (Err fault)) (sym i) tt
+
+pub returns-in_err-states-clause-built : goal.returns-in_err-states-clause-built
+returns-in_err-states-clause-built c =
+    passed c.args.path.now c.in_ok-form.form c.args.symbols.now c.in_ok-numbers.field-0 c.as_slice.result.now c.in_ok-numbers.ensures c.in_ok-form.ensures.is c.as_slice.ensures
+    c.in_err-states.field-0.0 c.in_err-states.ensures c.from_residual-in_err-states.result c.from_residual-in_err-states.ensures.1
+
+pub living-requires : goal.living-requires
+living-requires c =
+    let classes : Classes = c.in_ok-numbers.field-0 in
+    let e : Explored = c.in_ok-states.field-0 in
+    let are : AreClasses c.args.path.now c.args.symbols.now classes = c.in_ok-numbers.ensures in
+    let f : AreFound c.args.path.now classes e = found c.args.path.now c.in_ok-form.form classes c.as_slice.result.now e c.in_ok-form.ensures.is c.as_slice.ensures c.in_ok-states.ensures in
+    let flags : c.as_slice-3.result.now ≡ map takes_empty e.states = c.as_slice-3.ensures ∙ c.in_ok-accepting.ensures in
+    let r : AreInside c.as_slice-2.result.now (length c.as_slice-3.result.now) =
+    subst (λ (rows : List (List ℕ)). AreInside rows (length c.as_slice-3.result.now)) (sym c.as_slice-2.ensures)
+    (subst (λ (l : List Bool). AreInside e.rows (length l)) (sym flags) (inside c.args.path.now c.args.symbols.now classes are e.states e.rows f.0 f.1)) in
+    r
+
+pub invariant_of-result : goal.invariant_of-result
+invariant_of-result c =
+    let classes : Classes = c.in_ok-numbers.field-0 in
+    let e : Explored = c.in_ok-states.field-0 in
+    let are : AreClasses c.args.path.now c.args.symbols.now classes = c.in_ok-numbers.ensures in
+    let f : AreFound c.args.path.now classes e = found c.args.path.now c.in_ok-form.form classes c.as_slice.result.now e c.in_ok-form.ensures.is c.as_slice.ensures c.in_ok-states.ensures in
+    let flags : c.in_ok-accepting.accepting ≡ map takes_empty e.states = c.in_ok-accepting.ensures in
+    let living : AreLiving e.rows (map takes_empty e.states) c.in_ok-living.living =
+    subst (λ (l : List Bool). AreLiving e.rows l c.in_ok-living.living) (c.as_slice-3.ensures ∙ flags)
+    (subst (λ (rows : List (List ℕ)). AreLiving rows c.as_slice-3.result.now c.in_ok-living.living) c.as_slice-2.ensures c.in_ok-living.ensures) in
+    subst (λ (l : List Bool). AreWhole e.rows classes.numbers l c.in_ok-living.living) (sym flags) (is-whole c.args.path.now c.args.symbols.now classes are e.states e.rows f.0 f.1 c.in_ok-living.living living)
+
+pub returns-clause-built : goal.returns-clause-built
+returns-clause-built c =
+    let classes : Classes = c.in_ok-numbers.field-0 in
+    let e : Explored = c.in_ok-states.field-0 in
+    let are : AreClasses c.args.path.now c.args.symbols.now classes = c.in_ok-numbers.ensures in
+    let f : AreFound c.args.path.now classes e = found c.args.path.now c.in_ok-form.form classes c.as_slice.result.now e c.in_ok-form.ensures.is c.as_slice.ensures c.in_ok-states.ensures in
+    let flags : c.in_ok-accepting.accepting ≡ map takes_empty e.states = c.in_ok-accepting.ensures in
+    let living : AreLiving e.rows (map takes_empty e.states) c.in_ok-living.living =
+    subst (λ (l : List Bool). AreLiving e.rows l c.in_ok-living.living) (c.as_slice-3.ensures ∙ flags)
+    (subst (λ (rows : List (List ℕ)). AreLiving rows c.as_slice-3.result.now c.in_ok-living.living) c.as_slice-2.ensures c.in_ok-living.ensures) in (
+      e.states,
+      subst (λ (l : List Bool). AreTablesOf c.args.path.now c.args.symbols.now (tables_of e.rows classes.numbers l c.in_ok-living.living) e.states) (sym flags)
+          (tables-are c.args.path.now c.args.symbols.now classes are e.states e.rows f.0 f.1 c.in_ok-living.living living),
+      f.0.few,
+    )
+
+pub returns-clause-language : goal.returns-clause-language
+returns-clause-language c =
+    let classes : Classes = c.in_ok-numbers.field-0 in
+    let e : Explored = c.in_ok-states.field-0 in
+    let are : AreClasses c.args.path.now c.args.symbols.now classes = c.in_ok-numbers.ensures in
+    let f : AreFound c.args.path.now classes e = found c.args.path.now c.in_ok-form.form classes c.as_slice.result.now e c.in_ok-form.ensures.is c.as_slice.ensures c.in_ok-states.ensures in
+    let flags : c.in_ok-accepting.accepting ≡ map takes_empty e.states = c.in_ok-accepting.ensures in
+    let living : AreLiving e.rows (map takes_empty e.states) c.in_ok-living.living =
+    subst (λ (l : List Bool). AreLiving e.rows l c.in_ok-living.living) (c.as_slice-3.ensures ∙ flags)
+    (subst (λ (rows : List (List ℕ)). AreLiving rows c.as_slice-3.result.now c.in_ok-living.living) c.as_slice-2.ensures c.in_ok-living.ensures) in
+    subst (λ (l : List Bool). HasNoFunctionUnderNot c.args.path.now → IsAutomatonOf c.args.symbols.now (tables_of e.rows classes.numbers l c.in_ok-living.living) c.args.path.now) (sym flags)
+    (is-automaton c.args.path.now c.args.symbols.now classes are e.states e.rows f.0 f.1 c.in_ok-living.living living)

@@ -1,0 +1,9 @@
+pub mod States
+pub mod Automata
+pub mod Index
+pub mod Kinds
+pub mod Classes
+pub mod Followed
+pub mod Living
+pub mod Inside
+pub mod Built

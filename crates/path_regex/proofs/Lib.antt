@@ -1,0 +1,9 @@
+pub mod Ordered
+pub mod Shapes
+pub mod Plain
+pub mod Languages
+pub mod Kept
+pub mod Functionless
+pub mod Meanings
+pub mod Normality
+pub mod Results

@@ -1,0 +1,5 @@
+pub mod Parts
+pub mod Order
+pub mod Normal
+pub mod Derivatives
+pub mod Functions

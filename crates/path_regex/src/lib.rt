@@ -1,0 +1,47 @@
+//! Path expressions: their normal forms, their derivatives, and the empty word.
+#![tactic(auto)]
+
+ghost use Rattle.std.specs.Prelude.{◌≡◌, ◌↔◌, List, [], ◌∷◌, IfOk, IsTrue};
+ghost use Rattle.merlin_model.specs.declared.policy.Symbol.{Symbol};
+ghost use Rattle.merlin_model.specs.Paths.{InLanguage};
+ghost use Rattle.path_regex.specs.Normal.{normal_of, IsNormalForm};
+ghost use Rattle.path_regex.specs.Derivatives.{takes_empty, derivative_of};
+ghost use Rattle.path_regex.specs.Functions.{HasNoFunctionUnderNot};
+
+pub mod copies;
+mod forms;
+pub mod order;
+mod parts;
+
+pub use merlin_model::OutOfMemory;
+pub use merlin_model::policy::{Path, Symbol};
+use std::alloc::Global;
+
+/// The normal form of the path. It is its own normal form, and it takes the words that the path takes
+/// where no function stands under a Not.
+pub fn normal(alloc: Global, path: &Path) -> Result<Path, OutOfMemory>
+    ensures is { IfOk result (λ form. form ≡ normal_of path.now) }
+    ensures own { IfOk result IsNormalForm }
+    ensures functions { HasNoFunctionUnderNot path.now → IfOk result HasNoFunctionUnderNot }
+    ensures language { HasNoFunctionUnderNot path.now → IfOk result (λ form. (w : List Symbol) → InLanguage form w ↔ InLanguage path.now w) }
+{
+    forms::normal_form(alloc, path)
+}
+
+/// The path of the words that may follow after the symbol; it is in normal form where the path is.
+pub fn derivative(alloc: Global, path: &Path, symbol: Symbol) -> Result<Path, OutOfMemory>
+    ensures is { IfOk result (λ rest. rest ≡ derivative_of path.now symbol) }
+    ensures own { IsNormalForm path.now → IfOk result IsNormalForm }
+    ensures functions { HasNoFunctionUnderNot path.now → IfOk result HasNoFunctionUnderNot }
+    ensures quotient { HasNoFunctionUnderNot path.now → IfOk result (λ rest. (w : List Symbol) → InLanguage rest w ↔ InLanguage path.now (symbol ∷ w)) }
+{
+    forms::after(alloc, path, symbol)
+}
+
+/// Whether the path takes the empty word.
+pub fn nullable(path: &Path) -> bool
+    ensures is { result ≡ takes_empty path.now }
+    ensures empty { IsTrue result ↔ InLanguage path.now [] }
+{
+    forms::takes_empty(path)
+}

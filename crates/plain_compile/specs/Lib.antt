@@ -1,0 +1,5 @@
+pub mod Levels
+pub mod Hops
+pub mod Routes
+pub mod Tables
+pub mod Config

@@ -1,0 +1,201 @@
+// The tables of the policy that allows every way, switch by switch.
+ghost use Rattle.std.specs.Prelude.{◌≡◌, ◌<◌, ◌++◌, ◌==◌, [], ℕ, map, find, length, Option, OnOk, IfOk, if◌then◌else◌};
+ghost use Rattle.std.specs.List.{flat_map};
+ghost use Rattle.merlin_model.specs.declared.network.Wire.{Wire};
+ghost use Rattle.merlin_model.specs.Networks.{wires as wires_of_net};
+ghost use Rattle.rules_model.specs.Tables.{rules_of_row, cell_rule as cell_rule_of};
+ghost use Rattle.rules_model.specs.Plain.{stations, station_at, row_over, entries_from, entries_at, plain_rules_at, plain_rules};
+ghost use Rattle.plain_compile.specs.Routes.{next_in};
+ghost use Rattle.plain_compile.specs.Tables.{targets_of};
+
+use crate::cells::{back_rule, cell_rule, is_host, is_switch, last_rule, tag_rule};
+use merlin_model::OutOfMemory;
+use merlin_model::config::Rule;
+use merlin_model::network::Wire;
+use rules_model::station::Station;
+use sqlite_items::Items;
+use std::alloc::Global;
+use topology::{Topology, wires_of};
+
+/// A host, and the wire that leads towards it.
+#[derive(Clone, Copy)]
+pub struct Target {
+    pub host: Station,
+    pub wire: Wire,
+}
+
+// The wire of a host.
+fn wire_from(wires: &[Wire], loc: usize) -> Option<Wire>
+    ensures { result ≡ find (λ wire. wire.from == loc) wires.now }
+{
+    for wire in wires {
+        if wire.from == loc {
+            return Some(*wire);
+        }
+    }
+    None
+}
+
+// The host at a location, with its wire.
+fn station(net: &Topology, wires: &[Wire], loc: usize) -> Option<Station>
+    requires wires { wires.now ≡ wires_of_net net.now }
+    requires within { loc < length net.now.locations }
+    ensures { result ≡ station_at net.now loc }
+{
+    let address = net.host(loc)?;
+    let wire = wire_from(wires, loc)?;
+    Some(Station { loc, address, wire })
+}
+
+// All hosts with their wires.
+fn stations_of(alloc: Global, net: &Topology) -> Result<Vec<Station>, OutOfMemory>
+    ensures { IfOk result (λ found. found.items ≡ stations net.now) }
+{
+    let wires = wires_of(alloc, net.links())?;
+    let mut found = Vec::new(alloc);
+    for loc in 0..net.locations() {
+        if let Some(station) = station(net, &wires, loc) {
+            found.push(station)?;
+        }
+    }
+    Ok(found)
+}
+
+// The next hop at location `loc` towards a host.
+fn next_hop(routes: &[Vec<Option<Wire>>], host: usize, loc: usize) -> Option<Wire>
+    ensures { result ≡ next_in routes.now host loc }
+{
+    *routes.get(host)?.get(loc)?
+}
+
+// The hosts that a location leads to.
+fn targets(
+    alloc: Global,
+    routes: &[Vec<Option<Wire>>],
+    hosts: &[Station],
+    loc: usize,
+) -> Result<Vec<Target>, OutOfMemory>
+    ensures { IfOk result (λ found. found.items ≡ targets_of (next_in routes.now) hosts.now loc) }
+{
+    let mut found = Vec::new(alloc);
+    for host in hosts {
+        if let Some(wire) = next_hop(routes, host.loc, loc) {
+            found.push(Target { host: *host, wire })?;
+        }
+    }
+    Ok(found)
+}
+
+// The rules for tagged frames towards one host.
+fn push_tagged(
+    alloc: Global,
+    net: &Topology,
+    loc: usize,
+    target: &Target,
+    rules: &mut Items<Rule>,
+) -> Result<(), OutOfMemory>
+    ensures { (next : ℕ → ℕ → Option Wire) → OnOk result (rules.new ≡ rules.old ++ rules_of_row (row_over net.now next loc target.now.host target.now.wire)) }
+{
+    if !is_host(net, target.wire.to) {
+        rules.push(back_rule(alloc, net, loc, &target.host, target.wire)?)?;
+    }
+    rules.push(tag_rule(alloc, net, loc, &target.host, target.wire)?)?;
+    Ok(())
+}
+
+// The rules for tagged frames at a switch. One that leads to a single host stands on no way between two.
+fn push_all_tagged(
+    alloc: Global,
+    net: &Topology,
+    loc: usize,
+    targets: &[Target],
+    rules: &mut Items<Rule>,
+) -> Result<(), OutOfMemory>
+    ensures { (next : ℕ → ℕ → Option Wire) → OnOk result (rules.new ≡ rules.old ++ flat_map (λ t. rules_of_row (row_over net.now next loc t.host t.wire)) (if length targets.now == 1 then [] else targets.now)) }
+{
+    if targets.len() == 1 {
+        return Ok(());
+    }
+    for target in targets {
+        push_tagged(alloc, net, loc, target, rules)?;
+    }
+    Ok(())
+}
+
+// The ingress rules for packets that one host sends.
+fn push_cells_of(
+    alloc: Global,
+    net: &Topology,
+    routes: &[Vec<Option<Wire>>],
+    hosts: &[Station],
+    source: &Station,
+    rules: &mut Items<Rule>,
+) -> Result<(), OutOfMemory>
+    requires { hosts.now ≡ stations net.now }
+    ensures { OnOk result (rules.new ≡ rules.old ++ map cell_rule_of (entries_from net.now (next_in routes.now) source.now)) }
+{
+    for dest in hosts {
+        if dest.loc != source.loc {
+            let hop = next_hop(routes, dest.loc, source.wire.to);
+            rules.push(cell_rule(alloc, net, source, dest, hop)?)?;
+        }
+    }
+    Ok(())
+}
+
+// The ingress rules of a switch.
+fn push_cells(
+    alloc: Global,
+    net: &Topology,
+    routes: &[Vec<Option<Wire>>],
+    hosts: &[Station],
+    loc: usize,
+    rules: &mut Items<Rule>,
+) -> Result<(), OutOfMemory>
+    requires { hosts.now ≡ stations net.now }
+    ensures { OnOk result (rules.new ≡ rules.old ++ map cell_rule_of (entries_at net.now (next_in routes.now) loc)) }
+{
+    for source in hosts {
+        if source.wire.to == loc {
+            push_cells_of(alloc, net, routes, hosts, source, rules)?;
+        }
+    }
+    Ok(())
+}
+
+// All rules of a switch.
+fn push_switch(
+    alloc: Global,
+    net: &Topology,
+    routes: &[Vec<Option<Wire>>],
+    hosts: &[Station],
+    loc: usize,
+    rules: &mut Items<Rule>,
+) -> Result<(), OutOfMemory>
+    requires { hosts.now ≡ stations net.now }
+    ensures { OnOk result (rules.new ≡ rules.old ++ plain_rules_at net.now (next_in routes.now) loc) }
+{
+    let targets = targets(alloc, routes, hosts, loc)?;
+    push_all_tagged(alloc, net, loc, &targets, rules)?;
+    push_cells(alloc, net, routes, hosts, loc, rules)?;
+    rules.push(last_rule(alloc, loc)?)?;
+    Ok(())
+}
+
+/// The rules of all switches for these routes.
+pub fn rules_of(
+    alloc: Global,
+    net: &Topology,
+    routes: &[Vec<Option<Wire>>],
+) -> Result<Items<Rule>, OutOfMemory>
+    ensures { IfOk result (λ rules. rules ≡ plain_rules net.now (next_in routes.now)) }
+{
+    let hosts = stations_of(alloc, net)?;
+    let mut rules = Items::new(alloc);
+    for loc in 0..net.locations() {
+        if is_switch(net, loc) {
+            push_switch(alloc, net, routes, &hosts, loc, &mut rules)?;
+        }
+    }
+    Ok(rules)
+}

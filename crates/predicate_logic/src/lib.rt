@@ -1,0 +1,67 @@
+//! Predicates on packets, and which packets they hold of.
+#![tactic(auto)]
+
+ghost use Rattle.std.specs.Prelude.{◌≡◌};
+ghost use Rattle.std.specs.List.{list_all, list_any};
+ghost use Rattle.merlin_model.specs.Predicates.{passes, holds as holds_of};
+
+pub use merlin_model::policy::{Pred, Test};
+use packet_model::{Field, Packet};
+
+/// Whether the predicate holds of the packet.
+#[cycle(holds)]
+pub fn holds(pred: &Pred, packet: &Packet) -> bool
+    ensures { result ≡ holds_of pred.now packet.now }
+{
+    match pred {
+        Pred::Yes => true,
+        Pred::No => false,
+        Pred::Test(test) => passes_test(*test, packet),
+        Pred::All(preds) => all_hold(preds.as_slice(), packet),
+        Pred::AnyOf(preds) => any_holds(preds.as_slice(), packet),
+        Pred::Not(pred) => !holds(pred.get(), packet),
+    }
+}
+
+/// Whether all of the predicates hold of the packet.
+#[cycle(holds)]
+fn all_hold(preds: &[Pred], packet: &Packet) -> bool
+    ensures { result ≡ list_all (λ pred. holds_of pred packet.now) preds.now }
+{
+    for pred in preds {
+        if !holds(pred, packet) {
+            return false;
+        }
+    }
+    true
+}
+
+/// Whether any of the predicates holds of the packet.
+#[cycle(holds)]
+fn any_holds(preds: &[Pred], packet: &Packet) -> bool
+    ensures { result ≡ list_any (λ pred. holds_of pred packet.now) preds.now }
+{
+    for pred in preds {
+        if holds(pred, packet) {
+            return true;
+        }
+    }
+    false
+}
+
+/// Whether the packet passes the test.
+fn passes_test(test: Test, packet: &Packet) -> bool
+    ensures { result ≡ passes test packet.now }
+{
+    match test {
+        Test::Is { field, value } => packet.value(field) == value,
+        Test::Port {
+            proto,
+            field,
+            value,
+        } => {
+            packet.value(Field::Proto) == u64::from(proto)
+                && packet.value(field) == u64::from(value)
+        }
+    }
+}

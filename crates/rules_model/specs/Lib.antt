@@ -1,0 +1,4 @@
+pub mod Products
+pub mod Tables
+pub mod Promise
+pub mod Plain

@@ -72,7 +72,7 @@ fn is_over(net: &Topology, config: &Config) -> bool
 
 /// The whole text of a configuration, or nothing where it is not one over the network.
 fn text_of(alloc: Global, topology: &[u8], config: &Config) -> Result<Vec<u8>, Fail> {
-    let net = read(alloc, topology)?;
+    let net = read(alloc, topology).ok().ok_or("no network")?;
     let mut text = Vec::new(alloc);
     if is_over(&net, config) {
         for line in &print(alloc, config, &net)? {

@@ -64,7 +64,7 @@ fn end_text(alloc: Global, end: End, packet: Packet) -> Result<String, AllocErro
 
 /// What is seen of a packet that starts at h1: what it leaves, by the numbers of the locations, and its end.
 fn told(alloc: Global, topology: &[u8], config: &Config, packet: Packet) -> Result<String, Fail> {
-    let net = read(alloc, topology)?;
+    let net = read(alloc, topology).ok().ok_or("no network")?;
     let mut text = String::new(alloc);
     if is_host(&net, 0) && config.processes.is_empty() {
         let trace = trace_plain(alloc, &net, config, 0, packet)?;

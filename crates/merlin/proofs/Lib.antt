@@ -1,7 +1,9 @@
 pub mod Words
-pub mod Answering
+pub mod Parts
+pub mod Trees
 pub mod Outcomes
 pub mod Unique
+pub mod Given
 pub mod Nothing
 pub mod Lines
 pub mod Printable

@@ -1,78 +1,88 @@
 -- What a command answers, from its words and from what the files hold.
-use Rattle.std.specs.Prelude.{◌≡◌, ◌⊎◌, ◌≤◌, ℕ, ⊤, List, length}
-use Rattle.merlin_base.specs.Outside.{Told, IsFile, IsLongerThan, Rose}
-use Rattle.merlin_base.specs.declared.transfer.ReadFail.{ReadFail}
-use Rattle.merlin_base.specs.declared.transfer.ReadFail.TheVariants as fails
+use Rattle.std.specs.Prelude.{◌≡◌, ◌⊎◌, ℕ, ⊤, List, [], ◌∷◌}
+use Rattle.merlin_base.specs.Outside.{Told}
+use Rattle.merlin_model.specs.Programs.{Program}
 use Rattle.merlin_model.specs.declared.policy.Objective.{Objective}
 use Rattle.config_text.specs.Lines.{IsOver}
 use Rattle.topology.specs.declared.fault.NetFault.TheVariants as net
-use Rattle.merlin.specs.Command.{IsCompile, IsNoForm}
+use Rattle.certificate_text.specs.Faults.{IsFirstWrongLine}
+use Rattle.certificate_text.specs.ProgramTexts.{program_text, IsProgramText}
+use Rattle.certificate_text.specs.TreeTexts.{tree_text, IsTreeText}
+use Rattle.merlin.specs.Command.{Form, Compiling, Refuting, IsForm, IsNoForm, files_of}
+use Rattle.merlin.specs.Reading.{AreContents, IsFirstTooLong, IsNameIn, RoseIn}
 use Rattle.merlin.specs.Compile.{IsCompiledFrom, Refuses}
+use Rattle.merlin.specs.Refute.{IsProgram, IsRefuted, IsNotRefuted}
 use Rattle.merlin.specs.declared.compile.EarlyFault.TheVariants as early
 use Rattle.merlin.specs.declared.answer.Refusal.{Refusal}
-use Rattle.merlin.specs.declared.answer.Refusal.TheVariants.{TopologyJson, Unbuilt}
+use Rattle.merlin.specs.declared.answer.Refusal.TheVariants.{TopologyJson, Unbuilt, BadProgram, BadTree}
 use Rattle.merlin.specs.declared.answer.Answer.{Answer}
-use Rattle.merlin.specs.declared.answer.Answer.TheVariants.{Usage, ReadFault, TooLong, Refused, Done}
+use Rattle.merlin.specs.declared.answer.Answer.TheVariants.{Usage, ReadFault, TooLong, Refused, Done, Refuted, NotRefuted}
 
--- the most bytes of a policy or a topology
-abbrev pub limit : ℕ
-limit = 16777216
+-- why nothing is compiled from a policy and a topology
+abbrev pub StopsCompile : Refusal → List ℕ → List ℕ → Type 0
+StopsCompile TopologyJson policy topology = Refuses (early.Net net.Json) policy topology
+StopsCompile Unbuilt policy topology = Refuses early.Unbuilt policy topology ⊎ Refuses (early.Net net.Unbuilt) policy topology
+StopsCompile (BadProgram at) policy topology = ⊥
+StopsCompile (BadTree at) policy topology = ⊥
 
--- The words ask to compile two files, and these are their contents, where contents are told.
-pub record IsAsked (told : Told) (words : List (List ℕ)) (objective : Objective) (policy topology : List ℕ) : Type 0 where
-  pub policy_name : List ℕ
-  pub topology_name : List ℕ
-  pub budget : ℕ
-  pub form : IsCompile words policy_name topology_name objective budget
-  pub policy_file : IsFile told policy_name policy
-  pub topology_file : IsFile told topology_name topology
-  pub policy_fits : length policy ≤ limit
-  pub topology_fits : length topology ≤ limit
+-- Why a tree is not checked against a program: the first wrong line of the program, or else of the tree.
+abbrev pub StopsRefute : Refusal → List ℕ → List ℕ → Type 0
+StopsRefute (BadProgram at) program tree = IsFirstWrongLine program_text IsProgramText program at
+StopsRefute (BadTree at) program tree = ((stated : Program) × IsProgram program stated) × IsFirstWrongLine tree_text IsTreeText tree at
+StopsRefute TopologyJson program tree = ⊥
+StopsRefute Unbuilt program tree = ⊥
 
--- The words name this file, which is the first that is too long.
-pub record IsFirstTooLong (told : Told) (words : List (List ℕ)) (name : List ℕ) : Type 0 where
-  pub policy_name : List ℕ
-  pub topology_name : List ℕ
-  pub objective : Objective
-  pub budget : ℕ
-  pub form : IsCompile words policy_name topology_name objective budget
-  pub long : ((name ≡ policy_name) × IsLongerThan told policy_name limit)
-      ⊎ ((policy : List ℕ) × IsFile told policy_name policy × (length policy ≤ limit) × (name ≡ topology_name) × IsLongerThan told topology_name limit)
+-- the answer to a policy and a topology
+abbrev pub Compiles : Objective → List ℕ → List ℕ → Answer → Type 0
+Compiles objective policy topology (Refused refusal) = StopsCompile refusal policy topology
+Compiles objective policy topology (Done compiled) = IsCompiledFrom policy topology objective compiled
+Compiles objective policy topology Refuted = ⊥
+Compiles objective policy topology (NotRefuted node) = ⊥
+Compiles objective policy topology Usage = ⊥
+Compiles objective policy topology ReadFault = ⊥
+Compiles objective policy topology (TooLong name) = ⊥
 
--- why a policy or a topology is refused under this name
-abbrev pub IsCauseOf : Refusal → List ℕ → List ℕ → Type 0
-IsCauseOf TopologyJson policy topology = Refuses (early.Net net.Json) policy topology
-IsCauseOf Unbuilt policy topology = Refuses early.Unbuilt policy topology ⊎ Refuses (early.Net net.Unbuilt) policy topology
+-- the answer to a program and a tree
+abbrev pub Checks : List ℕ → List ℕ → Answer → Type 0
+Checks program tree (Refused refusal) = StopsRefute refusal program tree
+Checks program tree Refuted = IsRefuted program tree
+Checks program tree (NotRefuted node) = IsNotRefuted program tree node
+Checks program tree (Done compiled) = ⊥
+Checks program tree Usage = ⊥
+Checks program tree ReadFault = ⊥
+Checks program tree (TooLong name) = ⊥
 
--- the answer to files whose contents were read
-abbrev pub Answers : Objective → List ℕ → List ℕ → Answer → Type 0
-Answers objective policy topology (Refused refusal) = IsCauseOf refusal policy topology
-Answers objective policy topology (Done compiled) = IsCompiledFrom policy topology objective compiled
-Answers objective policy topology Usage = ⊥
-Answers objective policy topology ReadFault = ⊥
-Answers objective policy topology (TooLong name) = ⊥
+-- the answer to what the files of a command hold
+abbrev pub Answers : Form → List (List ℕ) → Answer → Type 0
+Answers (Compiling p t objective budget) contents answer = (policy topology : List ℕ) × (contents ≡ policy ∷ topology ∷ []) × Compiles objective policy topology answer
+Answers (Refuting p t) contents answer = (program tree : List ℕ) × (contents ≡ program ∷ tree ∷ []) × Checks program tree answer
+
+-- The words ask for this, and these are the contents of its files, where contents are told.
+pub record IsAsked (told : Told) (words : List (List ℕ)) (form : Form) (contents : List (List ℕ)) : Type 0 where
+  pub is_form : IsForm words form
+  pub are_contents : AreContents told (files_of form) contents
+
+-- the answer to a command whose files were read
+abbrev pub IsReply : Told → List (List ℕ) → Answer → Type 0
+IsReply told words answer = (form : Form) × (contents : List (List ℕ)) × IsAsked told words form contents × Answers form contents answer
 
 -- the name of a file that the words name
 abbrev pub IsFileWord : List (List ℕ) → List ℕ → Type 0
-IsFileWord words name = (policy topology : List ℕ) × (objective : Objective) × (budget : ℕ) × IsCompile words policy topology objective budget × ((name ≡ policy) ⊎ (name ≡ topology))
+IsFileWord words name = (form : Form) × IsForm words form × IsNameIn (files_of form) name
 
 -- The answer to words, where the files hold this.
 abbrev pub IsAnswer : Told → List (List ℕ) → Answer → Type 0
 IsAnswer told words Usage = IsNoForm words
 IsAnswer told words ReadFault = (name : List ℕ) × IsFileWord words name
-IsAnswer told words (TooLong name) = IsFirstTooLong told words name
-IsAnswer told words (Refused refusal) = (objective : Objective) × (policy topology : List ℕ) × IsAsked told words objective policy topology × IsCauseOf refusal policy topology
-IsAnswer told words (Done compiled) = (objective : Objective) × (policy topology : List ℕ) × IsAsked told words objective policy topology × IsCompiledFrom policy topology objective compiled
+IsAnswer told words (TooLong name) = (form : Form) × IsForm words form × IsFirstTooLong told (files_of form) name
+IsAnswer told words (Refused refusal) = IsReply told words (Refused refusal)
+IsAnswer told words (Done compiled) = IsReply told words (Done compiled)
+IsAnswer told words Refuted = IsReply told words Refuted
+IsAnswer told words (NotRefuted node) = IsReply told words (NotRefuted node)
 
 -- the count of a file that the words name has risen
 abbrev pub RoseForAFile : List (List ℕ) → (List ℕ → ℕ) → (List ℕ → ℕ) → Type 0
-RoseForAFile words before now = (name : List ℕ) × IsFileWord words name × Rose (before name) (now name)
-
--- what a read that failed is to the command
-abbrev pub Fails : ReadFail → List ℕ → Answer → Type 0
-Fails fails.Outside name answer = answer ≡ ReadFault
-Fails fails.TooLong name answer = answer ≡ TooLong name
-Fails fails.OutOfMemory name answer = ⊥
+RoseForAFile words before now = (form : Form) × IsForm words form × RoseIn (files_of form) before now
 
 -- the lines of a result name locations of its network, so that they can be printed
 abbrev pub IsPrintable : Answer → Type 0
@@ -81,3 +91,5 @@ IsPrintable ReadFault = ⊤
 IsPrintable (TooLong name) = ⊤
 IsPrintable (Refused refusal) = ⊤
 IsPrintable (Done compiled) = IsOver compiled.net compiled.config
+IsPrintable Refuted = ⊤
+IsPrintable (NotRefuted node) = ⊤

@@ -1,4 +1,4 @@
--- The words of a command.
+-- The words of a command, and the files that it names.
 use Rattle.std.specs.Prelude.{◌≡◌, ◌⊎◌, ◌≤◌, ℕ, List, [], ◌∷◌, map, codes}
 use Rattle.std.specs.String.{string_bytes}
 use Rattle.std.specs.declared.string.String.{String}
@@ -20,11 +20,29 @@ word_of Reserved = codes "reserved"
 abbrev pub IsBudget : List (List ℕ) → ℕ → Type 0
 IsBudget rest budget = ((rest ≡ []) × (budget ≡ 512)) ⊎ ((text : List ℕ) × (rest ≡ text ∷ []) × IsDecimal text budget × (1 ≤ budget) × (budget ≤ 4096))
 
--- the words ask to compile these files
-abbrev pub IsCompile : List (List ℕ) → List ℕ → List ℕ → Objective → ℕ → Type 0
-IsCompile words policy topology objective budget =
+-- a command, with the names of its files
+pub data Form : Type 0 where
+  Compiling : (policy topology : List ℕ) → (objective : Objective) → (budget : ℕ) → Form
+  Refuting : (program tree : List ℕ) → Form
+
+-- the words ask for this
+abbrev pub IsForm : List (List ℕ) → Form → Type 0
+IsForm words (Compiling policy topology objective budget) =
     (rest : List (List ℕ)) × (words ≡ codes "compile" ∷ policy ∷ topology ∷ word_of objective ∷ rest) × IsBudget rest budget
+IsForm words (Refuting program tree) = words ≡ codes "refute" ∷ program ∷ tree ∷ []
 
 -- the words are no form of a command
 abbrev pub IsNoForm : List (List ℕ) → Type 0
-IsNoForm words = (policy topology : List ℕ) (objective : Objective) (budget : ℕ) → IsCompile words policy topology objective budget → ⊥
+IsNoForm words = (form : Form) → IsForm words form → ⊥
+
+-- the most bytes of a policy, a topology or a program, and of a tree
+abbrev pub text_limit : ℕ
+text_limit = 16777216
+
+abbrev pub tree_limit : ℕ
+tree_limit = 1610612736
+
+-- the files of a command in the order of its words, each with the most bytes that it may have
+abbrev pub files_of : Form → List (List ℕ × ℕ)
+files_of (Compiling policy topology objective budget) = (policy, text_limit) ∷ (topology, text_limit) ∷ []
+files_of (Refuting program tree) = (program, text_limit) ∷ (tree, tree_limit) ∷ []

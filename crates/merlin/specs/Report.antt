@@ -12,9 +12,9 @@ use Rattle.config_text.specs.Words.{words, line}
 use Rattle.config_text.specs.Result.{objective_word, value_text, result_lines}
 use Rattle.merlin.specs.declared.compile.Compiled.{Compiled}
 use Rattle.merlin.specs.declared.answer.Refusal.{Refusal}
-use Rattle.merlin.specs.declared.answer.Refusal.TheVariants.{TopologyJson, Unbuilt}
+use Rattle.merlin.specs.declared.answer.Refusal.TheVariants.{TopologyJson, Unbuilt, BadProgram, BadTree}
 use Rattle.merlin.specs.declared.answer.Answer.{Answer}
-use Rattle.merlin.specs.declared.answer.Answer.TheVariants.{Usage, ReadFault, TooLong, Refused, Done}
+use Rattle.merlin.specs.declared.answer.Answer.TheVariants.{Usage, ReadFault, TooLong, Refused, Done, Refuted, NotRefuted}
 
 -- The certificate where nothing is reserved: one leaf on the last row, which asks for a value below 0. It stands after the rows of
 -- the directed links.
@@ -35,6 +35,8 @@ compiled_lines c = result_lines c.net c.objective c.value [] c.config (cutoff_le
 abbrev pub refusal_text : Refusal → List ℕ
 refusal_text TopologyJson = codes "refused: topology json"
 refusal_text Unbuilt = codes "refused: unbuilt"
+refusal_text (BadProgram at) = codes "refused: program at " ++ decimal at
+refusal_text (BadTree at) = codes "refused: tree at " ++ decimal at
 
 abbrev pub usage_text : List ℕ
 usage_text = codes "usage: compile POLICY TOPOLOGY shortest|ratio|reserved [BUDGET]; check POLICY TOPOLOGY RESULT; trace TOPOLOGY RESULT HOST PACKET; refine PARENT CHILD TOPOLOGY; refute PROGRAM TREE; grow N"
@@ -45,6 +47,8 @@ lines_of ReadFault = line (codes "fault: read") ∷ []
 lines_of (TooLong name) = line (codes "refused: too long " ++ name) ∷ []
 lines_of (Refused refusal) = line (refusal_text refusal) ∷ []
 lines_of (Done compiled) = compiled_lines compiled
+lines_of Refuted = line (codes "refuted") ∷ []
+lines_of (NotRefuted node) = line (codes "no " ++ decimal node) ∷ []
 
 abbrev pub text_of : Answer → List ℕ
 text_of answer = joined (lines_of answer)
@@ -55,3 +59,5 @@ status_of ReadFault = status.ReadFault
 status_of (TooLong name) = status.Refused
 status_of (Refused refusal) = status.Refused
 status_of (Done compiled) = status.Done
+status_of Refuted = status.Done
+status_of (NotRefuted node) = status.CheckNo

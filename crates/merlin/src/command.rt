@@ -1,6 +1,6 @@
 // The words of a command.
-ghost use Rattle.std.specs.Prelude.{◌≡◌, ◌≢◌, ℕ, IfSome, IfNone};
-ghost use Rattle.merlin.specs.Command.{texts, word_of, IsBudget, IsCompile, IsNoForm};
+ghost use Rattle.std.specs.Prelude.{◌≡◌, ◌≢◌, ℕ, List, IfSome, IfNone};
+ghost use Rattle.merlin.specs.Command.{texts, word_of, IsBudget, IsForm, Compiling, Refuting};
 
 use merlin_base::read_decimal;
 use merlin_model::policy::Objective;
@@ -16,6 +16,13 @@ pub struct Compile<'a> {
     pub topology: &'a str,
     pub objective: Objective,
     pub budget: u64,
+}
+
+/// A command to check a tree against a program.
+#[derive(Clone, Copy)]
+pub struct Refute<'a> {
+    pub program: &'a str,
+    pub tree: &'a str,
 }
 
 fn objective_of(word: &str) -> Option<Objective>
@@ -47,10 +54,10 @@ fn budget_of(rest: &[String]) -> Option<u64>
     }
 }
 
-/// The command that the words are, if they are a form of one.
-pub fn command_of(words: &[String]) -> Option<Compile<'_>>
-    ensures some { IfSome result (λ c. IsCompile (texts words.now) c.policy.now c.topology.now c.objective c.budget) }
-    ensures none { IfNone result (IsNoForm (texts words.now)) }
+/// The command to compile that the words are, if they are one.
+pub fn compile_of(words: &[String]) -> Option<Compile<'_>>
+    ensures some { IfSome result (λ c. IsForm (texts words.now) (Compiling c.policy.now c.topology.now c.objective c.budget)) }
+    ensures none { IfNone result ((policy topology : List ℕ) (objective : _) (budget : ℕ) → IsForm (texts words.now) (Compiling policy topology objective budget) → ⊥) }
 {
     let [command, policy, topology, objective, rest @ ..] = words else {
         return None;
@@ -65,5 +72,22 @@ pub fn command_of(words: &[String]) -> Option<Compile<'_>>
         topology: topology.as_str(),
         objective,
         budget,
+    })
+}
+
+/// The command to check a tree that the words are, if they are one.
+pub fn refute_of(words: &[String]) -> Option<Refute<'_>>
+    ensures some { IfSome result (λ c. IsForm (texts words.now) (Refuting c.program.now c.tree.now)) }
+    ensures none { IfNone result ((program tree : List ℕ) → IsForm (texts words.now) (Refuting program tree) → ⊥) }
+{
+    let [command, program, tree] = words else {
+        return None;
+    };
+    if command.as_str() != "refute" {
+        return None;
+    }
+    Some(Refute {
+        program: program.as_str(),
+        tree: tree.as_str(),
     })
 }

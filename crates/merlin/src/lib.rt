@@ -2,9 +2,12 @@
 #![tactic(auto)]
 
 mod answer;
+mod answering;
 mod command;
 mod compile;
 mod program;
+mod reading;
+mod refute;
 mod report;
 
 pub use compile::{Compiled, EarlyFault, compile_policy};

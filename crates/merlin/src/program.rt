@@ -3,9 +3,9 @@ ghost use Rattle.std.specs.Prelude.{◌≡◌, ◌⊎◌};
 ghost use Rattle.merlin_base.specs.Outside.{Rose};
 ghost use Rattle.merlin.specs.Command.{texts, IsNoForm};
 ghost use Rattle.merlin.specs.Answer.{RoseForAFile};
-ghost use Rattle.merlin.specs.Outcome.{IsOutcome, IsDone, EndsAs, IsAccepted, IsRefused};
+ghost use Rattle.merlin.specs.Outcome.{IsOutcome, IsDone, IsFailed, EndsAs, IsAccepted, IsShort, IsRefused, IsTooLong};
 
-use crate::answer::answer_to;
+use crate::answering::answer_to;
 use crate::report::{lines_of, status_of};
 use merlin_base::{Files, OutsideFault, Sink, Status, write_lines};
 use packet_model::Packet;
@@ -29,11 +29,16 @@ pub fn run<F: Files, K: Sink, A: Fn(&FnDecl, Packet) -> Packet + Drop>(
 
     ensures usage { result ≡ Status.Usage → IsNoForm (texts words.now) }
     ensures usage_given { IsNoForm (texts words.now) → EndsAs result Status.Usage }
+    ensures too_long_given { IsTooLong (F.contents files.old) (texts words.now) → (result ≡ Status.ReadFault) ⊎ EndsAs result Status.Refused }
     ensures refused_given { IsRefused (F.contents files.old) (texts words.now) → (result ≡ Status.ReadFault) ⊎ EndsAs result Status.Refused }
 
-    // With Done the sink took the text of the result, whose configuration delivers packets as promised.
+    // With Done a result was written, whose configuration delivers packets as promised, or a program was refuted, which has no solution.
     ensures done { result ≡ Status.Done → IsDone (F.contents files.old) (texts words.now) (K.taken out.old) (K.taken out.new) }
     ensures complete { IsAccepted (F.contents files.old) (texts words.now) → (result ≡ Status.ReadFault) ⊎ EndsAs result Status.Done }
+
+    // With CheckNo the first node of a tree that fails was named.
+    ensures check_no { result ≡ Status.CheckNo → IsFailed (F.contents files.old) (texts words.now) (K.taken out.old) (K.taken out.new) }
+    ensures check_no_given { IsShort (F.contents files.old) (texts words.now) → (result ≡ Status.ReadFault) ⊎ EndsAs result Status.CheckNo }
 
     ensures read_fault { result ≡ Status.ReadFault → RoseForAFile (texts words.now) (F.faults files.old) (F.faults files.new) }
     ensures write_fault { result ≡ Status.WriteFault → Rose (K.faults out.old) (K.faults out.new) }

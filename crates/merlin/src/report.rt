@@ -1,5 +1,6 @@
 // The lines of an answer.
 ghost use Rattle.std.specs.Prelude.{◌≡◌, ◌++◌, ◌∷◌, [], codes, IfOk};
+ghost use Rattle.std.specs.Fmt.{decimal};
 ghost use Rattle.config_text.specs.Words.{line as line_text};
 ghost use Rattle.config_text.specs.Result.{value_text, objective_word};
 ghost use Rattle.merlin.specs.Answer.{IsPrintable};
@@ -81,13 +82,37 @@ fn result_of(alloc: Global, compiled: &Compiled) -> Result<Vec<Name>, OutOfMemor
 const USAGE: &str =
     "usage: compile POLICY TOPOLOGY shortest|ratio|reserved [BUDGET]; check POLICY TOPOLOGY RESULT; trace TOPOLOGY RESULT HOST PACKET; refine PARENT CHILD TOPOLOGY; refute PROGRAM TREE; grow N";
 
-fn refusal(refusal: Refusal) -> &'static str
-    ensures { result.now ≡ refusal_text refusal }
+fn refusal_line(alloc: Global, refusal: Refusal) -> Result<Name, OutOfMemory>
+    ensures { IfOk result (λ name. name ≡ line_text (refusal_text refusal)) }
 {
     match refusal {
-        Refusal::TopologyJson => "refused: topology json",
-        Refusal::Unbuilt => "refused: unbuilt",
+        Refusal::TopologyJson => line(alloc, "refused: topology json"),
+        Refusal::Unbuilt => line(alloc, "refused: unbuilt"),
+        Refusal::BadProgram(at) => {
+            let text = format!(in alloc; "refused: program at {at}")?;
+            line(alloc, &text)
+        }
+        Refusal::BadTree(at) => {
+            let text = format!(in alloc; "refused: tree at {at}")?;
+            line(alloc, &text)
+        }
     }
+}
+
+fn refusal(alloc: Global, refusal: Refusal) -> Result<Vec<Name>, OutOfMemory>
+    ensures { IfOk result (λ lines. lines.items ≡ line_text (refusal_text refusal) ∷ []) }
+{
+    let mut lines = Vec::new(alloc);
+    lines.push(refusal_line(alloc, refusal)?)?;
+    Ok(lines)
+}
+
+// The line that names a node which fails.
+fn not_refuted(alloc: Global, node: usize) -> Result<Vec<Name>, OutOfMemory>
+    ensures { IfOk result (λ lines. lines.items ≡ line_text (codes "no " ++ decimal node) ∷ []) }
+{
+    let text = format!(in alloc; "no {node}")?;
+    one_line(alloc, &text)
 }
 
 fn one_line(alloc: Global, text: &str) -> Result<Vec<Name>, OutOfMemory>
@@ -118,8 +143,10 @@ pub fn lines_of(alloc: Global, answer: &Answer) -> Result<Vec<Name>, OutOfMemory
         Answer::Usage => one_line(alloc, USAGE),
         Answer::ReadFault => one_line(alloc, "fault: read"),
         Answer::TooLong(name) => too_long(alloc, name),
-        Answer::Refused(reason) => one_line(alloc, refusal(*reason)),
+        Answer::Refused(reason) => refusal(alloc, *reason),
         Answer::Done(compiled) => result_of(alloc, compiled),
+        Answer::Refuted => one_line(alloc, "refuted"),
+        Answer::NotRefuted(node) => not_refuted(alloc, *node),
     }
 }
 
@@ -131,6 +158,7 @@ pub fn status_of(answer: &Answer) -> Status
         Answer::Usage => Status::Usage,
         Answer::ReadFault => Status::ReadFault,
         Answer::TooLong(_) | Answer::Refused(_) => Status::Refused,
-        Answer::Done(_) => Status::Done,
+        Answer::Done(_) | Answer::Refuted => Status::Done,
+        Answer::NotRefuted(_) => Status::CheckNo,
     }
 }

@@ -1,0 +1,4 @@
+//! Policies as they are written, and which texts are policies.
+#![tactic(auto)]
+
+pub mod written;

@@ -1,15 +1,22 @@
 -- Predicates: the run over the lexemes of one goes on as the grammar says, and a run that ends well has read one.
-use Rattle.std.proofs.Common.{if◌then◌else◌, ℕ, ◌≡◌, ◌+◌, ◌<◌, ◌≤◌, zero, suc, Bool, true, false, cond, List, [], ◌∷◌, ◌++◌, Some, None, nat_lt, length, refl, ap, ◌∙◌, append_assoc, arith}
-use Rattle.std.proofs.lemmas.Bool.{lt-ltb}
+use Rattle.std.proofs.Common.{if◌then◌else◌, ℕ, ◌≡◌, ◌+◌, ◌<◌, ◌≤◌, ◌==◌, ◌&&◌, ◌⊎◌, inl, inr, ⊎_elim, zero, suc, Bool, true, false, cond, List, [], ◌∷◌, ◌++◌, Option, Some, None, Result, Ok, nat_lt, length, length-append, refl, sym, ap, ◌∙◌, subst, append_assoc, arith}
+use Rattle.std.specs.Prelude.{bytes_eq}
+use Rattle.std.proofs.lemmas.Bool.{lt-ltb, ltb-true, eqb-true}
+use Rattle.std.proofs.lemmas.Slice.Eq.{bytes_eq-Decides}
 use Rattle.merlin_model.specs.declared.policy.Test.{Test}
 use Rattle.merlin_model.specs.declared.policy.Pred.{Pred, Yes, No, Test as Tests}
 use Rattle.merlin_text.specs.declared.token.Word.TheVariants as words
+use Rattle.merlin_text.specs.declared.token.Sign.{Sign}
 use Rattle.merlin_text.specs.declared.token.Sign.TheVariants as signs
 use Rattle.policy_grammar.specs.declared.written.Tested.{Tested}
 use Rattle.policy_grammar.specs.declared.written.Tested.TheVariants as tested
-use Rattle.policy_grammar.specs.Lexemes.{Lexeme, word, sign}
-use Rattle.policy_grammar.specs.Predicates.{test_of, Lit, bang, group, yes, no, test, Conj, lit, and, Disj, conj, or, spell_lit, spell_conj, spell_pred, lit_value, lit_values, conj_values, pred_value, lit_depth, conj_depth, pred_depth, lit_tests, conj_tests, pred_tests, all_of, any_of}
-use Rattle.policy_grammar.specs.Machine.{Awaited, literal, negation, lits, conjs, whole_pred, bracket, value_of, opens, put, then_some, next, on, run, at}
+use Rattle.policy_grammar.specs.declared.written.WrittenPolicy.{WrittenPolicy}
+use Rattle.policy_grammar.specs.Lexemes.{Lexeme, name, word, sign}
+use Rattle.policy_grammar.specs.Predicates.{first_of, second_of, test_of, Lit, bang, group, yes, no, test, Conj, lit, and, Disj, conj, or, spell_lit, spell_conj, spell_pred, lit_value, lit_values, conj_values, pred_value, lit_depth, conj_depth, pred_depth, lit_tests, conj_tests, pred_tests, all_of, any_of}
+use Rattle.policy_grammar.specs.Machine.{Awaited, this_sign, literal, negation, lits, conjs, whole_pred, bracket, second, value_of, State, opens, put, sign_number, is_first, field_at, then_some, on, next, run, at}
+
+some_inj : {A : Type 0} {x y : A} → Some x ≡ Some y → x ≡ y
+some_inj e = cc
 
 -- The lexemes of a predicate are read, whatever stands around them.
 
@@ -90,3 +97,311 @@ mutual
 -- the lexemes of a predicate are read as that predicate, where neither `and` nor `or` follows
 pub pred_complete : (d : Disj) (y : List Lexeme) (k : List Awaited) (n left : ℕ) → no_and y ≡ true → no_or y ≡ true → left ≡ pred_tests d + n → opens k + pred_depth d ≤ 128 → run (spell_pred d ++ y) (at (literal ∷ lits [] ∷ conjs [] ∷ k) left) ≡ run y (at (whole_pred (pred_value d) ∷ k) n)
 pred_complete d y k n left a o e h = pred_goes d y [] k n left a o e h
+
+-- What a run that ends well reads. Each lemma on a place before some phrase gives the phrase, the lexemes after it, and the run from there.
+
+next_ok : (b : Bool) (s : State) (m : ℕ) (f : State → Result WrittenPolicy ℕ) (w : WrittenPolicy) → next (cond b (Some s) None) m f ≡ Ok w → (b ≡ true) × (f s ≡ Ok w)
+next_ok true s m f w e = (refl, e)
+next_ok false s m f w e = cc
+
+found : {A : Type 0} (o : Option A) (g : A → State) (m : ℕ) (f : State → Result WrittenPolicy ℕ) (w : WrittenPolicy) → next (then_some o (λ x. Some (g x))) m f ≡ Ok w → (x : A) × (o ≡ Some x) × (f (g x) ≡ Ok w)
+found None g m f w e = cc
+found (Some x) g m f w e = (x, refl, e)
+
+-- the sign of a number
+abbrev numbered : ℕ → Sign
+numbered n =
+    if n == 0 then signs.Becomes
+    else if n == 1 then signs.Arrow
+    else if n == 2 then signs.OpenList
+    else if n == 3 then signs.CloseList
+    else if n == 4 then signs.OpenGroup
+    else if n == 5 then signs.CloseGroup
+    else if n == 6 then signs.OpenSet
+    else if n == 7 then signs.CloseSet
+    else if n == 8 then signs.Colon
+    else if n == 9 then signs.Semicolon
+    else if n == 10 then signs.Comma
+    else if n == 11 then signs.Equals
+    else if n == 12 then signs.Plus
+    else if n == 13 then signs.Star
+    else if n == 14 then signs.Bang
+    else if n == 15 then signs.Dot
+    else signs.Bar
+
+numbered_back : (s : Sign) → numbered (sign_number s) ≡ s
+numbered_back signs.Becomes = refl
+numbered_back signs.Arrow = refl
+numbered_back signs.OpenList = refl
+numbered_back signs.CloseList = refl
+numbered_back signs.OpenGroup = refl
+numbered_back signs.CloseGroup = refl
+numbered_back signs.OpenSet = refl
+numbered_back signs.CloseSet = refl
+numbered_back signs.Colon = refl
+numbered_back signs.Semicolon = refl
+numbered_back signs.Comma = refl
+numbered_back signs.Equals = refl
+numbered_back signs.Plus = refl
+numbered_back signs.Star = refl
+numbered_back signs.Bang = refl
+numbered_back signs.Dot = refl
+numbered_back signs.Bar = refl
+
+same_sign : (s t : Sign) → (sign_number s == sign_number t) ≡ true → s ≡ t
+same_sign s t e = sym (numbered_back s) ∙ ap numbered (eqb-true (sign_number s) (sign_number t) e) ∙ numbered_back t
+
+-- a sign that is awaited
+pub record IsSignRead (s : Sign) (ts : List Lexeme) (k : List Awaited) (n : ℕ) (w : WrittenPolicy) : Type 0 where
+  pub rest : List Lexeme
+  pub spelled : ts ≡ sign s ∷ rest
+  pub goes : run rest (at k n) ≡ Ok w
+
+pub sign_sound : (s : Sign) (ts : List Lexeme) (k : List Awaited) (n : ℕ) (w : WrittenPolicy) → run ts (at (this_sign s ∷ k) n) ≡ Ok w → IsSignRead s ts k n w
+sign_sound s [] k n w e = cc
+sign_sound s (sign t ∷ ts) k n w e =
+    let r = next_ok (sign_number s == sign_number t) (at k n) (suc (length ts)) (λ u. run ts u) w e in
+    record { rest = ts; spelled = ap (λ x. sign x ∷ ts) (sym (same_sign s t r.0)); goes = r.1 }
+sign_sound s (_ ∷ ts) k n w e = cc
+
+-- The field that two names give has these names.
+
+abbrev AreNames : List ℕ → List ℕ → Tested → Type 0
+AreNames a b f = (first_of f ≡ a) × (second_of f ≡ b)
+
+picked : (b : Bool) (f g : Tested) (rest : Option Tested) → cond b (Some f) rest ≡ Some g → ((b ≡ true) × (f ≡ g)) ⊎ (rest ≡ Some g)
+picked true f g rest e = inl (refl, some_inj e)
+picked false f g rest e = inr e
+
+both : (x y : Bool) → (x && y) ≡ true → (x ≡ true) × (y ≡ true)
+both true true e = (refl, refl)
+both true false e = cc
+both false y e = cc
+
+named : (a b : List ℕ) (f g : Tested) → (bytes_eq a (first_of f) && bytes_eq b (second_of f)) ≡ true → f ≡ g → AreNames a b g
+named a b f g e same =
+    let c = both (bytes_eq a (first_of f)) (bytes_eq b (second_of f)) e in
+    subst (λ x. AreNames a b x) same (sym ((bytes_eq-Decides a (first_of f)).0 c.0), sym ((bytes_eq-Decides b (second_of f)).0 c.1))
+
+field_names : (a b : List ℕ) (g : Tested) → field_at a b ≡ Some g → AreNames a b g
+field_names a b g e = ⊎_elim (λ h. named a b tested.EthSrc g h.0 h.1)
+    (λ e. ⊎_elim (λ h. named a b tested.EthDst g h.0 h.1)
+      (λ e. ⊎_elim (λ h. named a b tested.IpSrc g h.0 h.1)
+        (λ e. ⊎_elim (λ h. named a b tested.IpDst g h.0 h.1)
+          (λ e. ⊎_elim (λ h. named a b tested.IpProto g h.0 h.1)
+            (λ e. ⊎_elim (λ h. named a b tested.TcpSrc g h.0 h.1)
+              (λ e. ⊎_elim (λ h. named a b tested.TcpDst g h.0 h.1)
+                (λ e. ⊎_elim (λ h. named a b tested.UdpSrc g h.0 h.1)
+                  (λ e. ⊎_elim (λ h. named a b tested.UdpDst g h.0 h.1)
+                    (λ e. cc)
+                    (picked _ _ _ _ e))
+                  (picked _ _ _ _ e))
+                (picked _ _ _ _ e))
+              (picked _ _ _ _ e))
+            (picked _ _ _ _ e))
+          (picked _ _ _ _ e))
+        (picked _ _ _ _ e))
+      (picked _ _ _ _ e))
+    (picked _ _ _ _ e)
+
+-- the second name of a field
+record IsSecondRead (a : List ℕ) (ts : List Lexeme) (k : List Awaited) (n : ℕ) (w : WrittenPolicy) : Type 0 where
+  field : Tested
+  place : ℕ
+  rest : List Lexeme
+  first : first_of field ≡ a
+  spelled : ts ≡ name (second_of field) place ∷ rest
+  goes : run rest (at (this_sign signs.Equals ∷ value_of field ∷ k) n) ≡ Ok w
+
+second_sound : (a : List ℕ) (ts : List Lexeme) (k : List Awaited) (n : ℕ) (w : WrittenPolicy) → run ts (at (second a ∷ k) n) ≡ Ok w → IsSecondRead a ts k n w
+second_sound a [] k n w e = cc
+second_sound a (name b q ∷ ts) k n w e =
+    let r = found (field_at a b) (λ f. at (this_sign signs.Equals ∷ value_of f ∷ k) n) (suc (length ts)) (λ u. run ts u) w e in
+    let names = field_names a b r.0 r.1 in
+    record { field = r.0; place = q; rest = ts; first = names.0; spelled = ap (λ x. name x q ∷ ts) (sym names.1); goes = r.2 }
+second_sound a (_ ∷ ts) k n w e = cc
+
+record IsValueRead (f : Tested) (ts : List Lexeme) (k : List Awaited) (n : ℕ) (w : WrittenPolicy) : Type 0 where
+  value : Lexeme
+  made : Test
+  takes : test_of f value ≡ Some made
+  rest : List Lexeme
+  spelled : ts ≡ value ∷ rest
+  goes : run rest (at (put (Tests made) k) n) ≡ Ok w
+
+value_sound : (f : Tested) (ts : List Lexeme) (k : List Awaited) (n : ℕ) (w : WrittenPolicy) → run ts (at (value_of f ∷ k) n) ≡ Ok w → IsValueRead f ts k n w
+value_sound f [] k n w e = cc
+value_sound f (v ∷ ts) k n w e =
+    let r = found (test_of f v) (λ p. at (put (Tests p) k) n) (suc (length ts)) (λ u. run ts u) w e in
+    record { value = v; made = r.0; takes = r.1; rest = ts; spelled = refl; goes = r.2 }
+
+-- a literal, a conjunction, a predicate
+record IsLitRead (ts : List Lexeme) (k : List Awaited) (left : ℕ) (w : WrittenPolicy) : Type 0 where
+  phrase : Lit
+  rest : List Lexeme
+  n : ℕ
+  spelled : ts ≡ spell_lit phrase ++ rest
+  tests : left ≡ lit_tests phrase + n
+  depth : opens k + lit_depth phrase ≤ 128
+  goes : run rest (at (put (lit_value phrase) k) n) ≡ Ok w
+
+record IsConjRead (ts : List Lexeme) (ls ps : List Pred) (k : List Awaited) (left : ℕ) (w : WrittenPolicy) : Type 0 where
+  phrase : Conj
+  rest : List Lexeme
+  n : ℕ
+  spelled : ts ≡ spell_conj phrase ++ rest
+  tests : left ≡ conj_tests phrase + n
+  depth : opens k + conj_depth phrase ≤ 128
+  goes : run rest (at (conjs (ps ++ all_of (ls ++ lit_values phrase) ∷ []) ∷ k) n) ≡ Ok w
+
+record IsDisjRead (ts : List Lexeme) (ps : List Pred) (k : List Awaited) (left : ℕ) (w : WrittenPolicy) : Type 0 where
+  phrase : Disj
+  rest : List Lexeme
+  n : ℕ
+  spelled : ts ≡ spell_pred phrase ++ rest
+  tests : left ≡ pred_tests phrase + n
+  depth : opens k + pred_depth phrase ≤ 128
+  goes : run rest (at (whole_pred (any_of (ps ++ conj_values phrase)) ∷ k) n) ≡ Ok w
+
+test_spelled : (a : List ℕ) (p : ℕ) (f : Tested) (q : ℕ) (ts us vs : List Lexeme) {ys : List Lexeme} → first_of f ≡ a → ts ≡ sign signs.Dot ∷ us → us ≡ name (second_of f) q ∷ vs → vs ≡ ys → name a p ∷ ts ≡ name (first_of f) p ∷ sign signs.Dot ∷ name (second_of f) q ∷ ys
+test_spelled a p f q ts us vs first dot names equals =
+    ap (λ x. name x p ∷ ts) (sym first)
+    ∙ ap (λ xs. name (first_of f) p ∷ xs) dot
+    ∙ ap (λ xs. name (first_of f) p ∷ sign signs.Dot ∷ xs) names
+    ∙ ap (λ xs. name (first_of f) p ∷ sign signs.Dot ∷ name (second_of f) q ∷ xs) equals
+
+test_sound : (a : List ℕ) (p : ℕ) (ts : List Lexeme) (k : List Awaited) (left : ℕ) (w : WrittenPolicy) → opens k ≤ 128 → run (name a p ∷ ts) (at (literal ∷ k) left) ≡ Ok w → IsLitRead (name a p ∷ ts) k left w
+test_sound a p ts k zero w h e = cc
+test_sound a p ts k (suc n) w h e =
+    let r = next_ok (is_first a) (at (this_sign signs.Dot ∷ second a ∷ k) n) (suc (length ts)) (λ u. run ts u) w e in
+    let dot = sign_sound signs.Dot ts (second a ∷ k) n w r.1 in
+    let names = second_sound a dot.rest k n w dot.goes in
+    let equals = sign_sound signs.Equals names.rest (value_of names.field ∷ k) n w names.goes in
+    let v = value_sound names.field equals.rest k n w equals.goes in
+    record {
+      phrase = test names.field p names.place v.value v.made v.takes;
+      rest = v.rest;
+      n = n;
+      spelled = test_spelled a p names.field names.place ts dot.rest names.rest names.first dot.spelled names.spelled (equals.spelled ∙ ap (λ xs. sign signs.Equals ∷ xs) v.spelled);
+      tests = omega arith;
+      depth = omega arith;
+      goes = v.goes
+    }
+
+abbrev ConjSound : ℕ → Type 0
+ConjSound m = (ts : List Lexeme) (ls ps : List Pred) (k : List Awaited) (left : ℕ) (w : WrittenPolicy) → length ts ≤ m → opens k ≤ 128 → run ts (at (literal ∷ lits ls ∷ conjs ps ∷ k) left) ≡ Ok w → IsConjRead ts ls ps k left w
+
+abbrev DisjSound : ℕ → Type 0
+DisjSound m = (ts : List Lexeme) (ps : List Pred) (k : List Awaited) (left : ℕ) (w : WrittenPolicy) → length ts ≤ m → opens k ≤ 128 → run ts (at (literal ∷ lits [] ∷ conjs ps ∷ k) left) ≡ Ok w → IsDisjRead ts ps k left w
+
+lit_sound : (m : ℕ) → DisjSound m → (ts : List Lexeme) (k : List Awaited) (left : ℕ) (w : WrittenPolicy) → length ts ≤ suc m → opens k ≤ 128 → run ts (at (literal ∷ k) left) ≡ Ok w → IsLitRead ts k left w
+lit_sound m ih [] k left w few h e = cc
+lit_sound m ih (sign signs.Bang ∷ ts) k left w few h e =
+    let r = next_ok (nat_lt (opens k) 128) (at (literal ∷ negation ∷ k) left) (suc (length ts)) (λ u. run ts u) w e in
+    let room = ltb-true (opens k) 128 r.0 in
+    let l = lit_sound m ih ts (negation ∷ k) left w (omega arith) (omega arith) r.1 in
+    record { phrase = bang l.phrase; rest = l.rest; n = l.n; spelled = ap (λ xs. sign signs.Bang ∷ xs) l.spelled; tests = l.tests; depth = omega (arith, l.depth); goes = l.goes }
+lit_sound m ih (sign signs.OpenGroup ∷ ts) k left w few h e =
+    let r = next_ok (nat_lt (opens k) 128) (at (literal ∷ lits [] ∷ conjs [] ∷ bracket ∷ k) left) (suc (length ts)) (λ u. run ts u) w e in
+    let room = ltb-true (opens k) 128 r.0 in
+    let d = ih ts [] (bracket ∷ k) left w (omega arith) (omega arith) r.1 in
+    let c = group_ends (pred_value d.phrase) d.rest k d.n w d.goes in
+    record {
+      phrase = group d.phrase;
+      rest = c.0;
+      n = d.n;
+      spelled = ap (λ xs. sign signs.OpenGroup ∷ xs) (d.spelled ∙ ap (λ xs. spell_pred d.phrase ++ xs) c.1 ∙ sym (append_assoc (spell_pred d.phrase) (sign signs.CloseGroup ∷ []) c.0));
+      tests = d.tests;
+      depth = omega (arith, d.depth);
+      goes = c.2
+    }
+  where
+    group_ends : (p : Pred) (rest : List Lexeme) (k : List Awaited) (n : ℕ) (w : WrittenPolicy) → run rest (at (whole_pred p ∷ bracket ∷ k) n) ≡ Ok w → (after : List Lexeme) × (rest ≡ sign signs.CloseGroup ∷ after) × (run after (at (put p k) n) ≡ Ok w)
+    group_ends p [] k n w e = cc
+    group_ends p (sign signs.CloseGroup ∷ after) k n w e = (after, refl, e)
+    group_ends p (_ ∷ after) k n w e = cc
+lit_sound m ih (word words.True ∷ ts) k left w few h e = record { phrase = yes; rest = ts; n = left; spelled = refl; tests = omega arith; depth = omega arith; goes = e }
+lit_sound m ih (word words.False ∷ ts) k left w few h e = record { phrase = no; rest = ts; n = left; spelled = refl; tests = omega arith; depth = omega arith; goes = e }
+lit_sound m ih (name a p ∷ ts) k left w few h e = test_sound a p ts k left w h e
+lit_sound m ih (_ ∷ ts) k left w few h e = cc
+
+-- a literal has a lexeme, so the rest is shorter
+lit_some : (l : Lit) → 1 ≤ length (spell_lit l)
+lit_some (bang l) = omega arith
+lit_some (group d) = omega arith
+lit_some yes = omega arith
+lit_some no = omega arith
+lit_some (test _ _ _ _ _ _) = omega arith
+
+conj_some : (c : Conj) → 1 ≤ length (spell_conj c)
+conj_some (lit l) = lit_some l
+conj_some (and l c) = omega (arith, lit_some l, length-append (spell_lit l) (word words.And ∷ spell_conj c))
+
+conj_given : (m : ℕ) → ConjSound m → DisjSound m → ConjSound (suc m)
+conj_given m ihc ihd ts ls ps k left w few h e =
+    let l = lit_sound m ihd ts (lits ls ∷ conjs ps ∷ k) left w few (omega (arith, h)) e in
+    let size : length ts ≡ length (spell_lit l.phrase) + length l.rest = ap length l.spelled ∙ length-append (spell_lit l.phrase) l.rest in
+    by l.phrase l.rest l.n l.spelled l.tests (omega (arith, l.depth)) l.goes (omega (arith, lit_some l.phrase, size))
+  where
+    by : (l : Lit) (rest : List Lexeme) (n : ℕ) → ts ≡ spell_lit l ++ rest → left ≡ lit_tests l + n → opens k + lit_depth l ≤ 128 → run rest (at (lits (ls ++ lit_value l ∷ []) ∷ conjs ps ∷ k) n) ≡ Ok w → length rest ≤ m → IsConjRead ts ls ps k left w
+    by l [] n spelled tests depth goes short = cc
+    by l (word words.And ∷ rest) n spelled tests depth goes short =
+        let c = ihc rest (ls ++ lit_value l ∷ []) ps k n w (omega arith) h goes in
+        record {
+          phrase = and l c.phrase;
+          rest = c.rest;
+          n = c.n;
+          spelled = spelled ∙ ap (λ xs. spell_lit l ++ (word words.And ∷ xs)) c.spelled ∙ sym (append_assoc (spell_lit l) (word words.And ∷ spell_conj c.phrase) c.rest);
+          tests = omega (arith, c.tests);
+          depth = omega (arith, c.depth);
+          goes = ap (λ vs. run c.rest (at (conjs (ps ++ all_of vs ∷ []) ∷ k) c.n)) (sym (append_assoc ls (lit_value l ∷ []) (lit_values c.phrase))) ∙ c.goes
+        }
+    by l (_ ∷ rest) n spelled tests depth goes short = record { phrase = lit l; rest = _ ∷ rest; n = n; spelled = spelled; tests = tests; depth = depth; goes = goes }
+
+disj_given : (m : ℕ) → ConjSound m → DisjSound m → DisjSound (suc m)
+disj_given m ihc ihd ts ps k left w few h e =
+    let c = conj_given m ihc ihd ts [] ps k left w few h e in
+    let size : length ts ≡ length (spell_conj c.phrase) + length c.rest = ap length c.spelled ∙ length-append (spell_conj c.phrase) c.rest in
+    by c.phrase c.rest c.n c.spelled c.tests c.depth c.goes (omega (arith, conj_some c.phrase, size))
+  where
+    by : (c : Conj) (rest : List Lexeme) (n : ℕ) → ts ≡ spell_conj c ++ rest → left ≡ conj_tests c + n → opens k + conj_depth c ≤ 128 → run rest (at (conjs (ps ++ all_of (lit_values c) ∷ []) ∷ k) n) ≡ Ok w → length rest ≤ m → IsDisjRead ts ps k left w
+    by c [] n spelled tests depth goes short = cc
+    by c (word words.Or ∷ rest) n spelled tests depth goes short =
+        let d = ihd rest (ps ++ all_of (lit_values c) ∷ []) k n w (omega arith) h goes in
+        record {
+          phrase = or c d.phrase;
+          rest = d.rest;
+          n = d.n;
+          spelled = spelled ∙ ap (λ xs. spell_conj c ++ (word words.Or ∷ xs)) d.spelled ∙ sym (append_assoc (spell_conj c) (word words.Or ∷ spell_pred d.phrase) d.rest);
+          tests = omega (arith, d.tests);
+          depth = omega (arith, d.depth);
+          goes = ap (λ vs. run d.rest (at (whole_pred (any_of vs) ∷ k) d.n)) (sym (append_assoc ps (all_of (lit_values c) ∷ []) (conj_values d.phrase))) ∙ d.goes
+        }
+    by c (_ ∷ rest) n spelled tests depth goes short = record { phrase = conj c; rest = _ ∷ rest; n = n; spelled = spelled; tests = tests; depth = depth; goes = goes }
+
+all_sound : (m : ℕ) → ConjSound m × DisjSound m
+all_sound zero = (none_conj, none_disj)
+  where
+    none_conj : ConjSound 0
+    none_conj [] ls ps k left w few h e = cc
+    none_conj (t ∷ ts) ls ps k left w few h e = absurd (omega arith)
+
+    none_disj : DisjSound 0
+    none_disj [] ps k left w few h e = cc
+    none_disj (t ∷ ts) ps k left w few h e = absurd (omega arith)
+all_sound (suc m) = let ih = all_sound m in (conj_given m ih.0 ih.1, disj_given m ih.0 ih.1)
+
+-- a run from before a predicate reads one
+pub record IsPredRead (ts : List Lexeme) (k : List Awaited) (left : ℕ) (w : WrittenPolicy) : Type 0 where
+  pub phrase : Disj
+  pub rest : List Lexeme
+  pub n : ℕ
+  pub spelled : ts ≡ spell_pred phrase ++ rest
+  pub tests : left ≡ pred_tests phrase + n
+  pub depth : opens k + pred_depth phrase ≤ 128
+  pub goes : run rest (at (whole_pred (pred_value phrase) ∷ k) n) ≡ Ok w
+
+pub pred_sound : (ts : List Lexeme) (k : List Awaited) (left : ℕ) (w : WrittenPolicy) → opens k ≤ 128 → run ts (at (literal ∷ lits [] ∷ conjs [] ∷ k) left) ≡ Ok w → IsPredRead ts k left w
+pred_sound ts k left w h e =
+    let d = (all_sound (length ts)).1 ts [] k left w (omega arith) h e in
+    record { phrase = d.phrase; rest = d.rest; n = d.n; spelled = d.spelled; tests = d.tests; depth = d.depth; goes = d.goes }

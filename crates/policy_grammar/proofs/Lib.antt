@@ -1,1 +1,2 @@
 pub mod PredicateTexts
+pub mod Closing

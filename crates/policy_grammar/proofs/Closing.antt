@@ -1,11 +1,12 @@
 -- Each state that is reached from the start can be brought to an end: with some lexemes after it there is a policy.
-use Rattle.std.proofs.Common.{ℕ, ◌≡◌, ◌≤◌, ◌==◌, ◌||◌, ◌⊎◌, inl, inr, ⊎_elim, zero, suc, Bool, true, false, cond, List, [], ◌∷◌, ◌++◌, Option, Some, None, Ok, codes, bytes_eq, nat_lt, length, refl, sym, ap, ◌∙◌, subst, arith}
+use Rattle.std.proofs.Common.{ℕ, ◌≡◌, ◌≤◌, ◌==◌, ◌||◌, ◌⊎◌, inl, inr, ⊎_elim, zero, suc, Bool, true, false, cond, List, [], ◌∷◌, ◌++◌, Option, Some, None, Ok, codes, bytes_eq, T, nat_lt, length, refl, sym, ap, ◌∙◌, subst, arith}
 use Rattle.std.proofs.Math.Dec.{eqb_refl}
 use Rattle.std.proofs.lemmas.Slice.Eq.{bytes_eq-Decides}
 use Rattle.merlin_model.specs.declared.policy.Bound.{Bound}
 use Rattle.merlin_model.specs.declared.policy.Bound.TheVariants.{Max, Min}
 use Rattle.merlin_model.specs.declared.policy.Field.TheVariants.{EthSrc, EthDst, IpSrc, IpDst, Proto, Sport, Dport}
 use Rattle.merlin_model.specs.declared.policy.Part.{Part}
+use Rattle.merlin_model.specs.declared.policy.Part.TheVariants.{Id, Constant}
 use Rattle.merlin_model.specs.declared.policy.Pred.{Pred, Yes, No, Test as Tests, Not}
 use Rattle.merlin_model.specs.declared.policy.Test.TheVariants.{Is, Port}
 use Rattle.merlin_text.specs.declared.token.Word.{Word}
@@ -13,6 +14,7 @@ use Rattle.merlin_text.specs.declared.token.Word.TheVariants as words
 use Rattle.merlin_text.specs.declared.token.Sign.{Sign}
 use Rattle.merlin_text.specs.declared.token.Sign.TheVariants as signs
 use Rattle.policy_grammar.specs.declared.written.Literal.{Literal}
+use Rattle.policy_grammar.specs.declared.written.Literal.TheVariants.{Mac, Ip}
 use Rattle.policy_grammar.specs.declared.written.RawPath.{RawPath, Dot, Not as NotPath}
 use Rattle.policy_grammar.specs.declared.written.Tested.{Tested}
 use Rattle.policy_grammar.specs.declared.written.Tested.TheVariants as tested
@@ -298,3 +300,201 @@ kept _ _ t (good_leading {w = w} {b = b} {ps = ps}) = kept_leading w b ps t
 kept _ _ t (good_sum_rest {w = w} {b = b} {ps = ps}) = kept_sum_rest w b ps t
 kept _ _ t (good_summand {w = w} {b = b} {ps = ps}) = kept_summand w b ps t
 kept _ _ t (good_term_rate {w = w} {b = b} {ps = ps}) = kept_term_rate w b ps t
+
+-- Each such state can be brought to an end, by the shortest lexemes.
+
+pub record IsClosable (k : List Awaited) (n : ℕ) : Type 0 where
+  pub more : List Lexeme
+  pub policy : WrittenPolicy
+  pub goes : run more (at k n) ≡ Ok policy
+
+by_lexeme : {k l : List Awaited} {n m : ℕ} (t : Lexeme) → feed_all k n t ≡ on l m → IsClosable l m → IsClosable k n
+by_lexeme t e c = record { more = t ∷ c.more; policy = c.policy; goes = ap (λ o. next o (suc (length c.more)) (λ u. run c.more u)) e ∙ c.goes }
+
+true_of : (b : Bool) → T b → b ≡ true
+true_of true h = refl
+true_of false h = absurd h
+
+closes_sign : (s : Sign) {k : List Awaited} {n : ℕ} → IsClosable k n → IsClosable (this_sign s ∷ k) n
+closes_sign s {k = k} {n = n} c = by_lexeme (sign s) (ap (λ b. cond b (on k n) None) (true_of (sign_number s == sign_number s) (eqb_refl (sign_number s)))) c
+
+closes_word : (s : Word) {k : List Awaited} {n : ℕ} → IsClosable k n → IsClosable (this_word s ∷ k) n
+closes_word s {k = k} {n = n} c = by_lexeme (word s) (ap (λ b. cond b (on k n) None) (true_of (word_number s == word_number s) (eqb_refl (word_number s)))) c
+
+closes_formula : (w : WrittenPolicy) (n : ℕ) → IsClosable (formula w ∷ []) n
+closes_formula w n = record { more = []; policy = w; goes = refl }
+
+closes_item : (h : Head) (n : ℕ) → IsClosable (item h ∷ []) n
+closes_item h n = by_lexeme (sign signs.CloseList) refl (closes_formula (listed h None) 0)
+
+closes_sets : (ss : List WrittenSet) (n : ℕ) → IsClosable (sets ss ∷ []) n
+closes_sets ss n = by_lexeme (sign signs.OpenList) refl (closes_item (record { sets = ss; items = [] }) 0)
+
+closes_set_rest : (ss : List WrittenSet) (a : List ℕ) (ls : List Literal) (n : ℕ) → IsClosable (set_rest ss a ls ∷ []) n
+closes_set_rest ss a ls n = by_lexeme (sign signs.CloseSet) refl (closes_sets (with_set ss a ls) 0)
+
+-- A path is ended by a bracket or by the end of the list.
+
+record IsPathClosable (k : List Awaited) (n : ℕ) : Type 0 where
+  first : Lexeme
+  no_star : (p : RawPath) (b : Bool) (l : List Awaited) → feed_prim p b l n first ≡ feed_sequence (put_path (repeated b p) l) n first
+  below : List Awaited
+  left : ℕ
+  goes : feed_sequence k n first ≡ on below left
+  closes : IsClosable below left
+
+closes_prim : (p : RawPath) (b : Bool) (k : List Awaited) (n : ℕ) → IsPathClosable (put_path (repeated b p) k) n → IsClosable (prim p b ∷ k) n
+closes_prim p b k n c = by_lexeme c.first (c.no_star p b k ∙ c.goes) c.closes
+
+at_bracket : (ps : List RawPath) (k : List Awaited) (n : ℕ) → feed_alts ps (path_bracket ∷ k) n (sign signs.CloseGroup) ≡ on (prim (alt_of ps) false ∷ k) n
+at_bracket ps k zero = refl
+at_bracket ps k (suc n) = refl
+
+at_end : (ps : List RawPath) (k : List Awaited) (n : ℕ) → feed_alts ps k n (sign signs.CloseList) ≡ feed_path (alt_of ps) k n (sign signs.CloseList)
+at_end ps k zero = refl
+at_end ps k (suc n) = refl
+
+closes_rep : (q : RawPath) (k : List Awaited) (n : ℕ) → TakesRep k → IsPathClosable (put_path q k) n
+closes_rep q _ n (path_banged {k = k} g) = closes_rep (NotPath q) k n g
+closes_rep q _ n (in_seq {ls = ls} {ps = ps} (in_path_bracket {k = k} g)) =
+    let p = alt_of (ps ++ cat_of (ls ++ q ∷ []) ∷ []) in
+    record {
+      first = sign signs.CloseGroup;
+      no_star = λ p b l. refl;
+      below = prim p false ∷ k;
+      left = n;
+      goes = at_bracket (ps ++ cat_of (ls ++ q ∷ []) ∷ []) k n;
+      closes = closes_prim p false k n (closes_rep p k n g)
+    }
+closes_rep q _ n (in_seq {ls = ls} {ps = ps} (of_statement {h = h} {p = pred})) =
+    let p = alt_of (ps ++ cat_of (ls ++ q ∷ []) ∷ []) in
+    let o : Opened = record { heading = h; pred = pred; path = p; limits = [] } in
+    record {
+      first = sign signs.CloseList;
+      no_star = λ p b l. refl;
+      below = formula (listed (closed o) None) ∷ [];
+      left = 0;
+      goes = at_end (ps ++ cat_of (ls ++ q ∷ []) ∷ []) (statement_path h pred ∷ []) n;
+      closes = closes_formula (listed (closed o) None) 0
+    }
+closes_rep q _ n (in_seq {ls = ls} {ps = ps} (of_default {h = h})) =
+    let p = alt_of (ps ++ cat_of (ls ++ q ∷ []) ∷ []) in
+    record {
+      first = sign signs.CloseList;
+      no_star = λ p b l. refl;
+      below = formula (listed h (Some p)) ∷ [];
+      left = 0;
+      goes = at_end (ps ++ cat_of (ls ++ q ∷ []) ∷ []) (default_path h ∷ []) n;
+      closes = closes_formula (listed h (Some p)) 0
+    }
+
+closes_path : (k : List Awaited) (n : ℕ) → 1 ≤ n → TakesRep k → IsClosable (rep ∷ k) n
+closes_path k zero h g = absurd (omega arith)
+closes_path k (suc n) h g = by_lexeme (sign signs.Dot) refl (closes_prim Dot false k n (closes_rep Dot k n g))
+
+-- A predicate is ended by its brackets and a path.
+
+closes_lit : (p : Pred) (k : List Awaited) (n : ℕ) → TakesLit k → IsClosable (put p k) n
+closes_lit p _ n (banged {k = k} g) = closes_lit (Not p) k n g
+closes_lit p _ n (in_conj {ls = ls} {ps = ps} (in_bracket {k = k} g)) =
+    by_lexeme (sign signs.CloseGroup) refl (closes_lit (any_of (ps ++ all_of (ls ++ p ∷ []) ∷ [])) k n g)
+closes_lit p _ n (in_conj {ls = ls} {ps = ps} (in_statement {h = h})) =
+    by_lexeme (sign signs.Arrow) refl (closes_path (reps [] ∷ alts [] ∷ statement_path h (any_of (ps ++ all_of (ls ++ p ∷ []) ∷ [])) ∷ []) 2048 (omega arith) (in_seq of_statement))
+
+closes_literal : (k : List Awaited) (n : ℕ) → TakesLit k → IsClosable (literal ∷ k) n
+closes_literal k n g = by_lexeme (word words.True) refl (closes_lit Yes k n g)
+
+closes_value : (f : Tested) (k : List Awaited) (n : ℕ) → TakesLit k → IsClosable (value_of f ∷ k) n
+closes_value tested.EthSrc k n g = by_lexeme (mac 0) refl (closes_lit (Tests (Is EthSrc 0)) k n g)
+closes_value tested.EthDst k n g = by_lexeme (mac 0) refl (closes_lit (Tests (Is EthDst 0)) k n g)
+closes_value tested.IpSrc k n g = by_lexeme (ip 0) refl (closes_lit (Tests (Is IpSrc 0)) k n g)
+closes_value tested.IpDst k n g = by_lexeme (ip 0) refl (closes_lit (Tests (Is IpDst 0)) k n g)
+closes_value tested.IpProto k n g = by_lexeme (number 1) refl (closes_lit (Tests (Is Proto 1)) k n g)
+closes_value tested.TcpSrc k n g = by_lexeme (number 0) refl (closes_lit (Tests (Port 6 Sport 0)) k n g)
+closes_value tested.TcpDst k n g = by_lexeme (number 0) refl (closes_lit (Tests (Port 6 Dport 0)) k n g)
+closes_value tested.UdpSrc k n g = by_lexeme (number 0) refl (closes_lit (Tests (Port 17 Sport 0)) k n g)
+closes_value tested.UdpDst k n g = by_lexeme (number 0) refl (closes_lit (Tests (Port 17 Dport 0)) k n g)
+
+-- the four first names, each of which has a field `src`
+closes_field : (a : List ℕ) (f : Tested) (k : List Awaited) (n : ℕ) → field_at a (codes "src") ≡ Some f → TakesLit k → IsClosable (second a ∷ k) n
+closes_field a f k n e g =
+    by_lexeme (name (codes "src") 0) (ap (λ o. then_some o (λ f. on (this_sign signs.Equals ∷ value_of f ∷ k) n)) e) (closes_sign signs.Equals (closes_value f k n g))
+
+either : (x y : Bool) → (x || y) ≡ true → (x ≡ true) ⊎ (y ≡ true)
+either true y e = inl refl
+either false y e = inr e
+
+closes_second : (a : List ℕ) (k : List Awaited) (n : ℕ) → is_first a ≡ true → TakesLit k → IsClosable (second a ∷ k) n
+closes_second a k n e g = ⊎_elim
+    (λ e. ⊎_elim
+      (λ e. ⊎_elim (λ h. this (codes "eth") tested.EthSrc refl h) (λ h. this (codes "ip") tested.IpSrc refl h) (either _ _ e))
+      (λ h. this (codes "tcp") tested.TcpSrc refl h)
+      (either _ _ e))
+    (λ h. this (codes "udp") tested.UdpSrc refl h)
+    (either _ _ e)
+  where
+    this : (b : List ℕ) (f : Tested) → field_at b (codes "src") ≡ Some f → bytes_eq a b ≡ true → IsClosable (second a ∷ k) n
+    this b f q h = closes_field a f k n (ap (λ x. field_at x (codes "src")) ((bytes_eq-Decides a b).0 h) ∙ q) g
+
+closes_statement : (h : Heading) (n : ℕ) → IsClosable (this_sign signs.Colon ∷ literal ∷ lits [] ∷ conjs [] ∷ statement_pred h ∷ []) n
+closes_statement h n = closes_sign signs.Colon (closes_literal (lits [] ∷ conjs [] ∷ statement_pred h ∷ []) n (in_conj in_statement))
+
+abbrev some_name : Lexeme
+some_name = name (codes "a") 0
+
+closes_each_id : (h : Head) (a b : List ℕ) (n : ℕ) → IsClosable (each_id h a b ∷ []) n
+closes_each_id h a b n = by_lexeme some_name refl (closes_statement (record { head = h; pair = Some (a, b); id = codes "a" }) 4096)
+
+closes_inner : (h : Head) (a : List ℕ) (n : ℕ) → IsClosable (inner_set h a ∷ []) n
+closes_inner h a n = by_lexeme some_name refl (closes_sign signs.CloseGroup (closes_sign signs.Colon (closes_each_id h a (codes "a") 0)))
+
+closes_outer : (h : Head) (n : ℕ) → IsClosable (outer_set h ∷ []) n
+closes_outer h n = by_lexeme some_name refl (closes_sign signs.Comma (closes_inner h (codes "a") 0))
+
+closes_limit_rest : (o : Opened) (n : ℕ) → IsClosable (limit_rest o ∷ []) n
+closes_limit_rest o n = by_lexeme (sign signs.CloseList) refl (closes_formula (listed (closed o) None) 0)
+
+closes_limit_rate : (o : Opened) (b : Bound) (n : ℕ) → IsClosable (limit_rate o b ∷ []) n
+closes_limit_rate o b n = by_lexeme (rate 0) refl (closes_sign signs.CloseGroup (closes_limit_rest (with_limit o b 0) 0))
+
+closes_terms_rest : (w : WrittenPolicy) (n : ℕ) → IsClosable (terms_rest w ∷ []) n
+closes_terms_rest w n = record { more = []; policy = w; goes = refl }
+
+closes_term_rate : (w : WrittenPolicy) (b : Bound) (ps : List Part) (n : ℕ) → IsClosable (term_rate w b ps ∷ []) n
+closes_term_rate w b ps n = by_lexeme (rate 0) refl (closes_sign signs.CloseGroup (closes_terms_rest (with_term w b ps 0) 0))
+
+closes_sum_rest : (w : WrittenPolicy) (b : Bound) (ps : List Part) (n : ℕ) → IsClosable (sum_rest w b ps ∷ []) n
+closes_sum_rest w b ps n = by_lexeme (sign signs.Comma) refl (closes_term_rate w b ps 0)
+
+closes_leading : (w : WrittenPolicy) (b : Bound) (ps : List Part) (n : ℕ) → IsClosable (leading w b ps ∷ []) n
+closes_leading w b ps n = by_lexeme some_name refl (closes_sum_rest w b (ps ++ Id (codes "a") ∷ []) 0)
+
+pub closes : (k : List Awaited) (n : ℕ) → Good k n → IsClosable k n
+closes _ _ (good_sign {s = s} {k = k} {n = n} g) = closes_sign s (closes k n g)
+closes _ _ (good_word {s = s} {k = k} {n = n} g) = closes_word s (closes k n g)
+closes _ _ (good_name {k = k} {n = n} g) = by_lexeme some_name refl (closes k n g)
+closes _ _ (good_literal {k = k} {n = n} g) = closes_literal k n g
+closes _ _ (good_lits {ls = ls} {ps = ps} {n = n} (in_bracket {k = k} g)) = by_lexeme (sign signs.CloseGroup) refl (closes_lit (any_of (ps ++ all_of ls ∷ [])) k n g)
+closes _ _ (good_lits {ls = ls} {ps = ps} (in_statement {h = h})) = by_lexeme (sign signs.Arrow) refl (closes_path (reps [] ∷ alts [] ∷ statement_path h (any_of (ps ++ all_of ls ∷ [])) ∷ []) 2048 (omega arith) (in_seq of_statement))
+closes _ _ (good_second {a = a} {k = k} {n = n} e g) = closes_second a k n e g
+closes _ _ (good_value {f = f} {k = k} {n = n} g) = closes_value f k n g
+closes _ _ (good_rep {k = k} {n = n} h g) = closes_path k n h g
+closes _ _ (good_prim {p = p} {b = b} {k = k} {n = n} g) = closes_prim p b k n (closes_rep (repeated b p) k n g)
+closes _ _ (good_sets {ss = ss} {n = n}) = closes_sets ss n
+closes _ _ (good_set_start {ss = ss} {a = a}) = by_lexeme (sign signs.CloseSet) refl (closes_sets (with_set ss a []) 0)
+closes _ _ (good_set_rest {ss = ss} {a = a} {ls = ls} {n = n}) = closes_set_rest ss a ls n
+closes _ _ (good_set_more {ss = ss} {a = a} {ls = ls}) = by_lexeme (ip 0) refl (closes_set_rest ss a (ls ++ Ip 0 ∷ []) 0)
+closes _ _ (good_item {h = h} {n = n}) = closes_item h n
+closes _ _ (good_outer {h = h} {n = n}) = closes_outer h n
+closes _ _ (good_inner {h = h} {a = a} {n = n}) = closes_inner h a n
+closes _ _ (good_each_id {h = h} {a = a} {b = b} {n = n}) = closes_each_id h a b n
+closes _ _ (good_limit {o = o}) = by_lexeme (word words.Max) refl (closes_sign signs.OpenGroup (closes_limit_rate o Max 0))
+closes _ _ (good_limit_rate {o = o} {b = b} {n = n}) = closes_limit_rate o b n
+closes _ _ (good_limit_rest {o = o} {n = n}) = closes_limit_rest o n
+closes _ _ (good_formula {w = w} {n = n}) = closes_formula w n
+closes _ _ (good_terms_rest {w = w} {n = n}) = closes_terms_rest w n
+closes _ _ (good_term {w = w}) = by_lexeme (word words.Max) refl (closes_sign signs.OpenGroup (closes_leading w Max [] 0))
+closes _ _ (good_leading {w = w} {b = b} {ps = ps} {n = n}) = closes_leading w b ps n
+closes _ _ (good_sum_rest {w = w} {b = b} {ps = ps} {n = n}) = closes_sum_rest w b ps n
+closes _ _ (good_summand {w = w} {b = b} {ps = ps}) = by_lexeme some_name refl (closes_sum_rest w b (ps ++ Id (codes "a") ∷ []) 0)
+closes _ _ (good_term_rate {w = w} {b = b} {ps = ps} {n = n}) = closes_term_rate w b ps n

@@ -1,2 +1,3 @@
 pub mod PredicateTexts
 pub mod Closing
+pub mod Faults

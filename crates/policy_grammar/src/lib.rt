@@ -1,4 +1,5 @@
 //! Policies as they are written, and which texts are policies.
 #![tactic(auto)]
 
+pub mod rows;
 pub mod written;

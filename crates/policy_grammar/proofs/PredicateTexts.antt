@@ -20,15 +20,28 @@ some_inj e = cc
 
 -- The lexemes of a predicate are read, whatever stands around them.
 
-abbrev pub no_and : List Lexeme → Bool
+-- no predicate goes on so
+abbrev pub ends_pred : List Lexeme → Bool
+ends_pred [] = true
+ends_pred (word words.And ∷ _) = false
+ends_pred (word words.Or ∷ _) = false
+ends_pred (_ ∷ _) = true
+
+abbrev no_and : List Lexeme → Bool
 no_and [] = true
 no_and (word words.And ∷ _) = false
 no_and (_ ∷ _) = true
 
-abbrev pub no_or : List Lexeme → Bool
+abbrev no_or : List Lexeme → Bool
 no_or [] = true
 no_or (word words.Or ∷ _) = false
 no_or (_ ∷ _) = true
+
+neither : (y : List Lexeme) → ends_pred y ≡ true → (no_and y ≡ true) × (no_or y ≡ true)
+neither [] h = (refl, refl)
+neither (word words.And ∷ _) h = cc
+neither (word words.Or ∷ _) h = cc
+neither (_ ∷ _) h = (refl, refl)
 
 -- where no `and` follows the conjunction is whole
 ends_conj : (y : List Lexeme) (ls ps : List Pred) (k : List Awaited) (n : ℕ) → no_and y ≡ true → run y (at (lits ls ∷ conjs ps ∷ k) n) ≡ run y (at (conjs (ps ++ all_of ls ∷ []) ∷ k) n)
@@ -37,10 +50,10 @@ ends_conj (word words.And ∷ y) ls ps k n h = cc
 ends_conj (_ ∷ y) ls ps k n h = refl
 
 -- where no `or` follows the predicate is whole
-ends_pred : (y : List Lexeme) (ps : List Pred) (k : List Awaited) (n : ℕ) → no_or y ≡ true → run y (at (conjs ps ∷ k) n) ≡ run y (at (whole_pred (any_of ps) ∷ k) n)
-ends_pred [] ps k n h = refl
-ends_pred (word words.Or ∷ y) ps k n h = cc
-ends_pred (_ ∷ y) ps k n h = refl
+ends_disj : (y : List Lexeme) (ps : List Pred) (k : List Awaited) (n : ℕ) → no_or y ≡ true → run y (at (conjs ps ∷ k) n) ≡ run y (at (whole_pred (any_of ps) ∷ k) n)
+ends_disj [] ps k n h = refl
+ends_disj (word words.Or ∷ y) ps k n h = cc
+ends_disj (_ ∷ y) ps k n h = refl
 
 opening : {A : Type 0} (m : ℕ) (x y : A) → m < 128 → (if nat_lt m 128 then x else y) ≡ x
 opening m x y h = ap (λ b. cond b x y) (lt-ltb m 128 h)
@@ -87,7 +100,7 @@ mutual
       ∙ ap (λ vs. run y (at (conjs (ps ++ all_of vs ∷ []) ∷ k) n)) (append_assoc ls (lit_value l ∷ []) (lit_values c))
 
   pred_goes : (d : Disj) (y : List Lexeme) (ps : List Pred) (k : List Awaited) (n left : ℕ) → no_and y ≡ true → no_or y ≡ true → left ≡ pred_tests d + n → opens k + pred_depth d ≤ 128 → run (spell_pred d ++ y) (at (literal ∷ lits [] ∷ conjs ps ∷ k) left) ≡ run y (at (whole_pred (any_of (ps ++ conj_values d)) ∷ k) n)
-  pred_goes (conj c) y ps k n left a o e h = conj_complete c y [] ps k n left a e h ∙ ends_pred y (ps ++ all_of (lit_values c) ∷ []) k n o
+  pred_goes (conj c) y ps k n left a o e h = conj_complete c y [] ps k n left a e h ∙ ends_disj y (ps ++ all_of (lit_values c) ∷ []) k n o
   pred_goes (or c d) y ps k n left a o e h =
       ap (λ ts. run ts (at (literal ∷ lits [] ∷ conjs ps ∷ k) left)) (append_assoc (spell_conj c) (word words.Or ∷ spell_pred d) y)
       ∙ conj_complete c (word words.Or ∷ spell_pred d ++ y) [] ps k (pred_tests d + n) left refl (omega arith) (omega arith)
@@ -95,8 +108,8 @@ mutual
       ∙ ap (λ vs. run y (at (whole_pred (any_of vs) ∷ k) n)) (append_assoc ps (all_of (lit_values c) ∷ []) (conj_values d))
 
 -- the lexemes of a predicate are read as that predicate, where neither `and` nor `or` follows
-pub pred_complete : (d : Disj) (y : List Lexeme) (k : List Awaited) (n left : ℕ) → no_and y ≡ true → no_or y ≡ true → left ≡ pred_tests d + n → opens k + pred_depth d ≤ 128 → run (spell_pred d ++ y) (at (literal ∷ lits [] ∷ conjs [] ∷ k) left) ≡ run y (at (whole_pred (pred_value d) ∷ k) n)
-pred_complete d y k n left a o e h = pred_goes d y [] k n left a o e h
+pub pred_complete : (d : Disj) (y : List Lexeme) (k : List Awaited) (n : ℕ) → ends_pred y ≡ true → opens k + pred_depth d ≤ 128 → run (spell_pred d ++ y) (at (literal ∷ lits [] ∷ conjs [] ∷ k) (pred_tests d + n)) ≡ run y (at (whole_pred (pred_value d) ∷ k) n)
+pred_complete d y k n e h = let ends = neither y e in pred_goes d y [] k n (pred_tests d + n) ends.0 ends.1 refl h
 
 -- What a run that ends well reads. Each lemma on a place before some phrase gives the phrase, the lexemes after it, and the run from there.
 
@@ -131,33 +144,18 @@ numbered n =
 
 numbered_back : (s : Sign) → numbered (sign_number s) ≡ s
 numbered_back signs.Becomes = refl
-numbered_back signs.Arrow = refl
-numbered_back signs.OpenList = refl
-numbered_back signs.CloseList = refl
-numbered_back signs.OpenGroup = refl
-numbered_back signs.CloseGroup = refl
-numbered_back signs.OpenSet = refl
-numbered_back signs.CloseSet = refl
-numbered_back signs.Colon = refl
-numbered_back signs.Semicolon = refl
-numbered_back signs.Comma = refl
-numbered_back signs.Equals = refl
-numbered_back signs.Plus = refl
-numbered_back signs.Star = refl
-numbered_back signs.Bang = refl
-numbered_back signs.Dot = refl
-numbered_back signs.Bar = refl
+numbered_back _ = refl
 
 same_sign : (s t : Sign) → (sign_number s == sign_number t) ≡ true → s ≡ t
 same_sign s t e = sym (numbered_back s) ∙ ap numbered (eqb-true (sign_number s) (sign_number t) e) ∙ numbered_back t
 
 -- a sign that is awaited
-pub record IsSignRead (s : Sign) (ts : List Lexeme) (k : List Awaited) (n : ℕ) (w : WrittenPolicy) : Type 0 where
+pub record SignRead (s : Sign) (ts : List Lexeme) (k : List Awaited) (n : ℕ) (w : WrittenPolicy) : Type 0 where
   pub rest : List Lexeme
   pub spelled : ts ≡ sign s ∷ rest
   pub goes : run rest (at k n) ≡ Ok w
 
-pub sign_sound : (s : Sign) (ts : List Lexeme) (k : List Awaited) (n : ℕ) (w : WrittenPolicy) → run ts (at (this_sign s ∷ k) n) ≡ Ok w → IsSignRead s ts k n w
+pub sign_sound : (s : Sign) (ts : List Lexeme) (k : List Awaited) (n : ℕ) (w : WrittenPolicy) → run ts (at (this_sign s ∷ k) n) ≡ Ok w → SignRead s ts k n w
 sign_sound s [] k n w e = cc
 sign_sound s (sign t ∷ ts) k n w e =
     let r = next_ok (sign_number s == sign_number t) (at k n) (suc (length ts)) (λ u. run ts u) w e in
@@ -205,7 +203,7 @@ field_names a b g e = ⊎_elim (λ h. named a b tested.EthSrc g h.0 h.1)
     (picked _ _ _ _ e)
 
 -- the second name of a field
-record IsSecondRead (a : List ℕ) (ts : List Lexeme) (k : List Awaited) (n : ℕ) (w : WrittenPolicy) : Type 0 where
+record SecondRead (a : List ℕ) (ts : List Lexeme) (k : List Awaited) (n : ℕ) (w : WrittenPolicy) : Type 0 where
   field : Tested
   place : ℕ
   rest : List Lexeme
@@ -213,7 +211,7 @@ record IsSecondRead (a : List ℕ) (ts : List Lexeme) (k : List Awaited) (n : �
   spelled : ts ≡ name (second_of field) place ∷ rest
   goes : run rest (at (this_sign signs.Equals ∷ value_of field ∷ k) n) ≡ Ok w
 
-second_sound : (a : List ℕ) (ts : List Lexeme) (k : List Awaited) (n : ℕ) (w : WrittenPolicy) → run ts (at (second a ∷ k) n) ≡ Ok w → IsSecondRead a ts k n w
+second_sound : (a : List ℕ) (ts : List Lexeme) (k : List Awaited) (n : ℕ) (w : WrittenPolicy) → run ts (at (second a ∷ k) n) ≡ Ok w → SecondRead a ts k n w
 second_sound a [] k n w e = cc
 second_sound a (name b q ∷ ts) k n w e =
     let r = found (field_at a b) (λ f. at (this_sign signs.Equals ∷ value_of f ∷ k) n) (suc (length ts)) (λ u. run ts u) w e in
@@ -221,7 +219,7 @@ second_sound a (name b q ∷ ts) k n w e =
     record { field = r.0; place = q; rest = ts; first = names.0; spelled = ap (λ x. name x q ∷ ts) (sym names.1); goes = r.2 }
 second_sound a (_ ∷ ts) k n w e = cc
 
-record IsValueRead (f : Tested) (ts : List Lexeme) (k : List Awaited) (n : ℕ) (w : WrittenPolicy) : Type 0 where
+record ValueRead (f : Tested) (ts : List Lexeme) (k : List Awaited) (n : ℕ) (w : WrittenPolicy) : Type 0 where
   value : Lexeme
   made : Test
   takes : test_of f value ≡ Some made
@@ -229,39 +227,39 @@ record IsValueRead (f : Tested) (ts : List Lexeme) (k : List Awaited) (n : ℕ) 
   spelled : ts ≡ value ∷ rest
   goes : run rest (at (put (Tests made) k) n) ≡ Ok w
 
-value_sound : (f : Tested) (ts : List Lexeme) (k : List Awaited) (n : ℕ) (w : WrittenPolicy) → run ts (at (value_of f ∷ k) n) ≡ Ok w → IsValueRead f ts k n w
+value_sound : (f : Tested) (ts : List Lexeme) (k : List Awaited) (n : ℕ) (w : WrittenPolicy) → run ts (at (value_of f ∷ k) n) ≡ Ok w → ValueRead f ts k n w
 value_sound f [] k n w e = cc
 value_sound f (v ∷ ts) k n w e =
     let r = found (test_of f v) (λ p. at (put (Tests p) k) n) (suc (length ts)) (λ u. run ts u) w e in
     record { value = v; made = r.0; takes = r.1; rest = ts; spelled = refl; goes = r.2 }
 
 -- a literal, a conjunction, a predicate
-record IsLitRead (ts : List Lexeme) (k : List Awaited) (left : ℕ) (w : WrittenPolicy) : Type 0 where
-  phrase : Lit
+record LitRead (ts : List Lexeme) (k : List Awaited) (left : ℕ) (w : WrittenPolicy) : Type 0 where
+  tree : Lit
   rest : List Lexeme
-  n : ℕ
-  spelled : ts ≡ spell_lit phrase ++ rest
-  tests : left ≡ lit_tests phrase + n
-  depth : opens k + lit_depth phrase ≤ 128
-  goes : run rest (at (put (lit_value phrase) k) n) ≡ Ok w
+  spare : ℕ
+  spelled : ts ≡ spell_lit tree ++ rest
+  tests : left ≡ lit_tests tree + spare
+  deep : opens k + lit_depth tree ≤ 128
+  goes : run rest (at (put (lit_value tree) k) spare) ≡ Ok w
 
-record IsConjRead (ts : List Lexeme) (ls ps : List Pred) (k : List Awaited) (left : ℕ) (w : WrittenPolicy) : Type 0 where
-  phrase : Conj
+record ConjRead (ts : List Lexeme) (ls ps : List Pred) (k : List Awaited) (left : ℕ) (w : WrittenPolicy) : Type 0 where
+  tree : Conj
   rest : List Lexeme
-  n : ℕ
-  spelled : ts ≡ spell_conj phrase ++ rest
-  tests : left ≡ conj_tests phrase + n
-  depth : opens k + conj_depth phrase ≤ 128
-  goes : run rest (at (conjs (ps ++ all_of (ls ++ lit_values phrase) ∷ []) ∷ k) n) ≡ Ok w
+  spare : ℕ
+  spelled : ts ≡ spell_conj tree ++ rest
+  tests : left ≡ conj_tests tree + spare
+  deep : opens k + conj_depth tree ≤ 128
+  goes : run rest (at (conjs (ps ++ all_of (ls ++ lit_values tree) ∷ []) ∷ k) spare) ≡ Ok w
 
-record IsDisjRead (ts : List Lexeme) (ps : List Pred) (k : List Awaited) (left : ℕ) (w : WrittenPolicy) : Type 0 where
-  phrase : Disj
+record DisjRead (ts : List Lexeme) (ps : List Pred) (k : List Awaited) (left : ℕ) (w : WrittenPolicy) : Type 0 where
+  tree : Disj
   rest : List Lexeme
-  n : ℕ
-  spelled : ts ≡ spell_pred phrase ++ rest
-  tests : left ≡ pred_tests phrase + n
-  depth : opens k + pred_depth phrase ≤ 128
-  goes : run rest (at (whole_pred (any_of (ps ++ conj_values phrase)) ∷ k) n) ≡ Ok w
+  spare : ℕ
+  spelled : ts ≡ spell_pred tree ++ rest
+  tests : left ≡ pred_tests tree + spare
+  deep : opens k + pred_depth tree ≤ 128
+  goes : run rest (at (whole_pred (any_of (ps ++ conj_values tree)) ∷ k) spare) ≡ Ok w
 
 test_spelled : (a : List ℕ) (p : ℕ) (f : Tested) (q : ℕ) (ts us vs : List Lexeme) {ys : List Lexeme} → first_of f ≡ a → ts ≡ sign signs.Dot ∷ us → us ≡ name (second_of f) q ∷ vs → vs ≡ ys → name a p ∷ ts ≡ name (first_of f) p ∷ sign signs.Dot ∷ name (second_of f) q ∷ ys
 test_spelled a p f q ts us vs first dot names equals =
@@ -270,7 +268,7 @@ test_spelled a p f q ts us vs first dot names equals =
     ∙ ap (λ xs. name (first_of f) p ∷ sign signs.Dot ∷ xs) names
     ∙ ap (λ xs. name (first_of f) p ∷ sign signs.Dot ∷ name (second_of f) q ∷ xs) equals
 
-test_sound : (a : List ℕ) (p : ℕ) (ts : List Lexeme) (k : List Awaited) (left : ℕ) (w : WrittenPolicy) → opens k ≤ 128 → run (name a p ∷ ts) (at (literal ∷ k) left) ≡ Ok w → IsLitRead (name a p ∷ ts) k left w
+test_sound : (a : List ℕ) (p : ℕ) (ts : List Lexeme) (k : List Awaited) (left : ℕ) (w : WrittenPolicy) → opens k ≤ 128 → run (name a p ∷ ts) (at (literal ∷ k) left) ≡ Ok w → LitRead (name a p ∷ ts) k left w
 test_sound a p ts k zero w h e = cc
 test_sound a p ts k (suc n) w h e =
     let r = next_ok (is_first a) (at (this_sign signs.Dot ∷ second a ∷ k) n) (suc (length ts)) (λ u. run ts u) w e in
@@ -279,40 +277,40 @@ test_sound a p ts k (suc n) w h e =
     let equals = sign_sound signs.Equals names.rest (value_of names.field ∷ k) n w names.goes in
     let v = value_sound names.field equals.rest k n w equals.goes in
     record {
-      phrase = test names.field p names.place v.value v.made v.takes;
+      tree = test names.field p names.place v.value v.made v.takes;
       rest = v.rest;
-      n = n;
+      spare = n;
       spelled = test_spelled a p names.field names.place ts dot.rest names.rest names.first dot.spelled names.spelled (equals.spelled ∙ ap (λ xs. sign signs.Equals ∷ xs) v.spelled);
       tests = omega arith;
-      depth = omega arith;
+      deep = omega arith;
       goes = v.goes
     }
 
 abbrev ConjSound : ℕ → Type 0
-ConjSound m = (ts : List Lexeme) (ls ps : List Pred) (k : List Awaited) (left : ℕ) (w : WrittenPolicy) → length ts ≤ m → opens k ≤ 128 → run ts (at (literal ∷ lits ls ∷ conjs ps ∷ k) left) ≡ Ok w → IsConjRead ts ls ps k left w
+ConjSound m = (ts : List Lexeme) (ls ps : List Pred) (k : List Awaited) (left : ℕ) (w : WrittenPolicy) → length ts ≤ m → opens k ≤ 128 → run ts (at (literal ∷ lits ls ∷ conjs ps ∷ k) left) ≡ Ok w → ConjRead ts ls ps k left w
 
 abbrev DisjSound : ℕ → Type 0
-DisjSound m = (ts : List Lexeme) (ps : List Pred) (k : List Awaited) (left : ℕ) (w : WrittenPolicy) → length ts ≤ m → opens k ≤ 128 → run ts (at (literal ∷ lits [] ∷ conjs ps ∷ k) left) ≡ Ok w → IsDisjRead ts ps k left w
+DisjSound m = (ts : List Lexeme) (ps : List Pred) (k : List Awaited) (left : ℕ) (w : WrittenPolicy) → length ts ≤ m → opens k ≤ 128 → run ts (at (literal ∷ lits [] ∷ conjs ps ∷ k) left) ≡ Ok w → DisjRead ts ps k left w
 
-lit_sound : (m : ℕ) → DisjSound m → (ts : List Lexeme) (k : List Awaited) (left : ℕ) (w : WrittenPolicy) → length ts ≤ suc m → opens k ≤ 128 → run ts (at (literal ∷ k) left) ≡ Ok w → IsLitRead ts k left w
+lit_sound : (m : ℕ) → DisjSound m → (ts : List Lexeme) (k : List Awaited) (left : ℕ) (w : WrittenPolicy) → length ts ≤ suc m → opens k ≤ 128 → run ts (at (literal ∷ k) left) ≡ Ok w → LitRead ts k left w
 lit_sound m ih [] k left w few h e = cc
 lit_sound m ih (sign signs.Bang ∷ ts) k left w few h e =
     let r = next_ok (nat_lt (opens k) 128) (at (literal ∷ negation ∷ k) left) (suc (length ts)) (λ u. run ts u) w e in
     let room = ltb-true (opens k) 128 r.0 in
     let l = lit_sound m ih ts (negation ∷ k) left w (omega arith) (omega arith) r.1 in
-    record { phrase = bang l.phrase; rest = l.rest; n = l.n; spelled = ap (λ xs. sign signs.Bang ∷ xs) l.spelled; tests = l.tests; depth = omega (arith, l.depth); goes = l.goes }
+    record { tree = bang l.tree; rest = l.rest; spare = l.spare; spelled = ap (λ xs. sign signs.Bang ∷ xs) l.spelled; tests = l.tests; deep = omega (arith, l.deep); goes = l.goes }
 lit_sound m ih (sign signs.OpenGroup ∷ ts) k left w few h e =
     let r = next_ok (nat_lt (opens k) 128) (at (literal ∷ lits [] ∷ conjs [] ∷ bracket ∷ k) left) (suc (length ts)) (λ u. run ts u) w e in
     let room = ltb-true (opens k) 128 r.0 in
     let d = ih ts [] (bracket ∷ k) left w (omega arith) (omega arith) r.1 in
-    let c = group_ends (pred_value d.phrase) d.rest k d.n w d.goes in
+    let c = group_ends (pred_value d.tree) d.rest k d.spare w d.goes in
     record {
-      phrase = group d.phrase;
+      tree = group d.tree;
       rest = c.0;
-      n = d.n;
-      spelled = ap (λ xs. sign signs.OpenGroup ∷ xs) (d.spelled ∙ ap (λ xs. spell_pred d.phrase ++ xs) c.1 ∙ sym (append_assoc (spell_pred d.phrase) (sign signs.CloseGroup ∷ []) c.0));
+      spare = d.spare;
+      spelled = ap (λ xs. sign signs.OpenGroup ∷ xs) (d.spelled ∙ ap (λ xs. spell_pred d.tree ++ xs) c.1 ∙ sym (append_assoc (spell_pred d.tree) (sign signs.CloseGroup ∷ []) c.0));
       tests = d.tests;
-      depth = omega (arith, d.depth);
+      deep = omega (arith, d.deep);
       goes = c.2
     }
   where
@@ -320,8 +318,8 @@ lit_sound m ih (sign signs.OpenGroup ∷ ts) k left w few h e =
     group_ends p [] k n w e = cc
     group_ends p (sign signs.CloseGroup ∷ after) k n w e = (after, refl, e)
     group_ends p (_ ∷ after) k n w e = cc
-lit_sound m ih (word words.True ∷ ts) k left w few h e = record { phrase = yes; rest = ts; n = left; spelled = refl; tests = omega arith; depth = omega arith; goes = e }
-lit_sound m ih (word words.False ∷ ts) k left w few h e = record { phrase = no; rest = ts; n = left; spelled = refl; tests = omega arith; depth = omega arith; goes = e }
+lit_sound m ih (word words.True ∷ ts) k left w few h e = record { tree = yes; rest = ts; spare = left; spelled = refl; tests = omega arith; deep = omega arith; goes = e }
+lit_sound m ih (word words.False ∷ ts) k left w few h e = record { tree = no; rest = ts; spare = left; spelled = refl; tests = omega arith; deep = omega arith; goes = e }
 lit_sound m ih (name a p ∷ ts) k left w few h e = test_sound a p ts k left w h e
 lit_sound m ih (_ ∷ ts) k left w few h e = cc
 
@@ -340,44 +338,44 @@ conj_some (and l c) = omega (arith, lit_some l, length-append (spell_lit l) (wor
 conj_given : (m : ℕ) → ConjSound m → DisjSound m → ConjSound (suc m)
 conj_given m ihc ihd ts ls ps k left w few h e =
     let l = lit_sound m ihd ts (lits ls ∷ conjs ps ∷ k) left w few (omega (arith, h)) e in
-    let size : length ts ≡ length (spell_lit l.phrase) + length l.rest = ap length l.spelled ∙ length-append (spell_lit l.phrase) l.rest in
-    by l.phrase l.rest l.n l.spelled l.tests (omega (arith, l.depth)) l.goes (omega (arith, lit_some l.phrase, size))
+    let size : length ts ≡ length (spell_lit l.tree) + length l.rest = ap length l.spelled ∙ length-append (spell_lit l.tree) l.rest in
+    by l.tree l.rest l.spare l.spelled l.tests (omega (arith, l.deep)) l.goes (omega (arith, lit_some l.tree, size))
   where
-    by : (l : Lit) (rest : List Lexeme) (n : ℕ) → ts ≡ spell_lit l ++ rest → left ≡ lit_tests l + n → opens k + lit_depth l ≤ 128 → run rest (at (lits (ls ++ lit_value l ∷ []) ∷ conjs ps ∷ k) n) ≡ Ok w → length rest ≤ m → IsConjRead ts ls ps k left w
+    by : (l : Lit) (rest : List Lexeme) (n : ℕ) → ts ≡ spell_lit l ++ rest → left ≡ lit_tests l + n → opens k + lit_depth l ≤ 128 → run rest (at (lits (ls ++ lit_value l ∷ []) ∷ conjs ps ∷ k) n) ≡ Ok w → length rest ≤ m → ConjRead ts ls ps k left w
     by l [] n spelled tests depth goes short = cc
     by l (word words.And ∷ rest) n spelled tests depth goes short =
         let c = ihc rest (ls ++ lit_value l ∷ []) ps k n w (omega arith) h goes in
         record {
-          phrase = and l c.phrase;
+          tree = and l c.tree;
           rest = c.rest;
-          n = c.n;
-          spelled = spelled ∙ ap (λ xs. spell_lit l ++ (word words.And ∷ xs)) c.spelled ∙ sym (append_assoc (spell_lit l) (word words.And ∷ spell_conj c.phrase) c.rest);
+          spare = c.spare;
+          spelled = spelled ∙ ap (λ xs. spell_lit l ++ (word words.And ∷ xs)) c.spelled ∙ sym (append_assoc (spell_lit l) (word words.And ∷ spell_conj c.tree) c.rest);
           tests = omega (arith, c.tests);
-          depth = omega (arith, c.depth);
-          goes = ap (λ vs. run c.rest (at (conjs (ps ++ all_of vs ∷ []) ∷ k) c.n)) (sym (append_assoc ls (lit_value l ∷ []) (lit_values c.phrase))) ∙ c.goes
+          deep = omega (arith, c.deep);
+          goes = ap (λ vs. run c.rest (at (conjs (ps ++ all_of vs ∷ []) ∷ k) c.spare)) (sym (append_assoc ls (lit_value l ∷ []) (lit_values c.tree))) ∙ c.goes
         }
-    by l (_ ∷ rest) n spelled tests depth goes short = record { phrase = lit l; rest = _ ∷ rest; n = n; spelled = spelled; tests = tests; depth = depth; goes = goes }
+    by l (_ ∷ rest) n spelled tests depth goes short = record { tree = lit l; rest = _ ∷ rest; spare = n; spelled = spelled; tests = tests; deep = depth; goes = goes }
 
 disj_given : (m : ℕ) → ConjSound m → DisjSound m → DisjSound (suc m)
 disj_given m ihc ihd ts ps k left w few h e =
     let c = conj_given m ihc ihd ts [] ps k left w few h e in
-    let size : length ts ≡ length (spell_conj c.phrase) + length c.rest = ap length c.spelled ∙ length-append (spell_conj c.phrase) c.rest in
-    by c.phrase c.rest c.n c.spelled c.tests c.depth c.goes (omega (arith, conj_some c.phrase, size))
+    let size : length ts ≡ length (spell_conj c.tree) + length c.rest = ap length c.spelled ∙ length-append (spell_conj c.tree) c.rest in
+    by c.tree c.rest c.spare c.spelled c.tests c.deep c.goes (omega (arith, conj_some c.tree, size))
   where
-    by : (c : Conj) (rest : List Lexeme) (n : ℕ) → ts ≡ spell_conj c ++ rest → left ≡ conj_tests c + n → opens k + conj_depth c ≤ 128 → run rest (at (conjs (ps ++ all_of (lit_values c) ∷ []) ∷ k) n) ≡ Ok w → length rest ≤ m → IsDisjRead ts ps k left w
+    by : (c : Conj) (rest : List Lexeme) (n : ℕ) → ts ≡ spell_conj c ++ rest → left ≡ conj_tests c + n → opens k + conj_depth c ≤ 128 → run rest (at (conjs (ps ++ all_of (lit_values c) ∷ []) ∷ k) n) ≡ Ok w → length rest ≤ m → DisjRead ts ps k left w
     by c [] n spelled tests depth goes short = cc
     by c (word words.Or ∷ rest) n spelled tests depth goes short =
         let d = ihd rest (ps ++ all_of (lit_values c) ∷ []) k n w (omega arith) h goes in
         record {
-          phrase = or c d.phrase;
+          tree = or c d.tree;
           rest = d.rest;
-          n = d.n;
-          spelled = spelled ∙ ap (λ xs. spell_conj c ++ (word words.Or ∷ xs)) d.spelled ∙ sym (append_assoc (spell_conj c) (word words.Or ∷ spell_pred d.phrase) d.rest);
+          spare = d.spare;
+          spelled = spelled ∙ ap (λ xs. spell_conj c ++ (word words.Or ∷ xs)) d.spelled ∙ sym (append_assoc (spell_conj c) (word words.Or ∷ spell_pred d.tree) d.rest);
           tests = omega (arith, d.tests);
-          depth = omega (arith, d.depth);
-          goes = ap (λ vs. run d.rest (at (whole_pred (any_of vs) ∷ k) d.n)) (sym (append_assoc ps (all_of (lit_values c) ∷ []) (conj_values d.phrase))) ∙ d.goes
+          deep = omega (arith, d.deep);
+          goes = ap (λ vs. run d.rest (at (whole_pred (any_of vs) ∷ k) d.spare)) (sym (append_assoc ps (all_of (lit_values c) ∷ []) (conj_values d.tree))) ∙ d.goes
         }
-    by c (_ ∷ rest) n spelled tests depth goes short = record { phrase = conj c; rest = _ ∷ rest; n = n; spelled = spelled; tests = tests; depth = depth; goes = goes }
+    by c (_ ∷ rest) n spelled tests depth goes short = record { tree = conj c; rest = _ ∷ rest; spare = n; spelled = spelled; tests = tests; deep = depth; goes = goes }
 
 all_sound : (m : ℕ) → ConjSound m × DisjSound m
 all_sound zero = (none_conj, none_disj)
@@ -391,17 +389,17 @@ all_sound zero = (none_conj, none_disj)
     none_disj (t ∷ ts) ps k left w few h e = absurd (omega arith)
 all_sound (suc m) = let ih = all_sound m in (conj_given m ih.0 ih.1, disj_given m ih.0 ih.1)
 
--- a run from before a predicate reads one
-pub record IsPredRead (ts : List Lexeme) (k : List Awaited) (left : ℕ) (w : WrittenPolicy) : Type 0 where
-  pub phrase : Disj
+-- a run that ends well from before a predicate reads one
+pub record PredRead (ts : List Lexeme) (k : List Awaited) (left : ℕ) (w : WrittenPolicy) : Type 0 where
+  pub tree : Disj
   pub rest : List Lexeme
-  pub n : ℕ
-  pub spelled : ts ≡ spell_pred phrase ++ rest
-  pub tests : left ≡ pred_tests phrase + n
-  pub depth : opens k + pred_depth phrase ≤ 128
-  pub goes : run rest (at (whole_pred (pred_value phrase) ∷ k) n) ≡ Ok w
+  pub spare : ℕ
+  pub spelled : ts ≡ spell_pred tree ++ rest
+  pub tests : pred_tests tree + spare ≡ left
+  pub deep : opens k + pred_depth tree ≤ 128
+  pub goes : run rest (at (whole_pred (pred_value tree) ∷ k) spare) ≡ Ok w
 
-pub pred_sound : (ts : List Lexeme) (k : List Awaited) (left : ℕ) (w : WrittenPolicy) → opens k ≤ 128 → run ts (at (literal ∷ lits [] ∷ conjs [] ∷ k) left) ≡ Ok w → IsPredRead ts k left w
+pub pred_sound : (ts : List Lexeme) (k : List Awaited) (left : ℕ) (w : WrittenPolicy) → opens k ≤ 128 → run ts (at (literal ∷ lits [] ∷ conjs [] ∷ k) left) ≡ Ok w → PredRead ts k left w
 pred_sound ts k left w h e =
     let d = (all_sound (length ts)).1 ts [] k left w (omega arith) h e in
-    record { phrase = d.phrase; rest = d.rest; n = d.n; spelled = d.spelled; tests = d.tests; depth = d.depth; goes = d.goes }
+    record { tree = d.tree; rest = d.rest; spare = d.spare; spelled = d.spelled; tests = sym d.tests; deep = d.deep; goes = d.goes }

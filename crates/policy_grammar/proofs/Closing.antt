@@ -1,12 +1,12 @@
 -- Each state that is reached from the start can be brought to an end: with some lexemes after it there is a policy.
-use Rattle.std.proofs.Common.{ℕ, ◌≡◌, ◌≤◌, ◌==◌, ◌||◌, ◌⊎◌, inl, inr, ⊎_elim, zero, suc, Bool, true, false, cond, List, [], ◌∷◌, ◌++◌, Option, Some, None, Ok, codes, bytes_eq, T, nat_lt, length, refl, sym, ap, ◌∙◌, subst, arith}
+use Rattle.std.proofs.Common.{ℕ, ◌≡◌, ◌≤◌, ◌==◌, ◌||◌, ◌⊎◌, inl, inr, ⊎_elim, zero, suc, Bool, true, false, cond, List, [], ◌∷◌, ◌++◌, Option, Some, None, Ok, codes, bytes_eq, T, nat_lt, length, refl, ap, ◌∙◌, arith}
 use Rattle.std.proofs.Math.Dec.{eqb_refl}
 use Rattle.std.proofs.lemmas.Slice.Eq.{bytes_eq-Decides}
 use Rattle.merlin_model.specs.declared.policy.Bound.{Bound}
-use Rattle.merlin_model.specs.declared.policy.Bound.TheVariants.{Max, Min}
+use Rattle.merlin_model.specs.declared.policy.Bound.TheVariants.{Max}
 use Rattle.merlin_model.specs.declared.policy.Field.TheVariants.{EthSrc, EthDst, IpSrc, IpDst, Proto, Sport, Dport}
 use Rattle.merlin_model.specs.declared.policy.Part.{Part}
-use Rattle.merlin_model.specs.declared.policy.Part.TheVariants.{Id, Constant}
+use Rattle.merlin_model.specs.declared.policy.Part.TheVariants.{Id}
 use Rattle.merlin_model.specs.declared.policy.Pred.{Pred, Yes, No, Test as Tests, Not}
 use Rattle.merlin_model.specs.declared.policy.Test.TheVariants.{Is, Port}
 use Rattle.merlin_text.specs.declared.token.Word.{Word}
@@ -14,7 +14,7 @@ use Rattle.merlin_text.specs.declared.token.Word.TheVariants as words
 use Rattle.merlin_text.specs.declared.token.Sign.{Sign}
 use Rattle.merlin_text.specs.declared.token.Sign.TheVariants as signs
 use Rattle.policy_grammar.specs.declared.written.Literal.{Literal}
-use Rattle.policy_grammar.specs.declared.written.Literal.TheVariants.{Mac, Ip}
+use Rattle.policy_grammar.specs.declared.written.Literal.TheVariants.{Ip}
 use Rattle.policy_grammar.specs.declared.written.RawPath.{RawPath, Dot, Not as NotPath}
 use Rattle.policy_grammar.specs.declared.written.Tested.{Tested}
 use Rattle.policy_grammar.specs.declared.written.Tested.TheVariants as tested
@@ -23,7 +23,7 @@ use Rattle.policy_grammar.specs.declared.written.WrittenPolicy.{WrittenPolicy}
 use Rattle.policy_grammar.specs.Lexemes.{Lexeme, name, word, sign, number, rate, mac, ip}
 use Rattle.policy_grammar.specs.Predicates.{all_of, any_of, test_of}
 use Rattle.policy_grammar.specs.PathTexts.{cat_of, alt_of}
-use Rattle.policy_grammar.specs.Machine.{Head, Heading, Opened, Awaited, this_sign, this_word, any_name, literal, negation, lits, conjs, bracket, second, value_of, rep, prim, path_negation, reps, alts, path_bracket, sets, set_start, set_rest, set_more, item, outer_set, inner_set, each_id, statement_pred, statement_path, default_path, limit, limit_rate, limit_rest, formula, terms_rest, term, leading, sum_rest, summand, term_rate, State, on, opens, sign_number, word_number, put, put_path, repeated, is_first, field_at, then_some, begins_rep, closed, listed, with_set, with_limit, with_term, feed_sign, feed_word, feed_name, feed_literal, feed_lits, feed_conjs, feed_pred, feed_second, feed_value, feed_rep, feed_prim, feed_sequence, feed_reps, feed_alts, feed_path, feed_opened, feed_end, feed_sets, feed_set_start, feed_set_rest, feed_set_more, feed_item, feed_outer, feed_inner, feed_each_id, feed_limit, feed_limit_rate, feed_limit_rest, feed_formula, feed_terms_rest, feed_term, feed_leading, feed_sum_rest, feed_summand, feed_term_rate, feed_all, next, run, at, start}
+use Rattle.policy_grammar.specs.Machine.{Head, Heading, Opened, Awaited, this_sign, this_word, any_name, literal, negation, lits, conjs, bracket, second, value_of, rep, prim, path_negation, reps, alts, path_bracket, sets, set_start, set_rest, set_more, item, outer_set, inner_set, each_id, statement_pred, statement_path, default_path, limit, limit_rate, limit_rest, formula, terms_rest, term, leading, sum_rest, summand, term_rate, State, on, opens, sign_number, word_number, put, put_path, repeated, is_first, field_at, then_some, begins_rep, closed, listed, with_set, with_limit, with_term, feed_sign, feed_word, feed_name, feed_literal, feed_lits, feed_conjs, feed_pred, feed_second, feed_value, feed_rep, feed_prim, feed_sequence, feed_alts, feed_path, feed_opened, feed_end, feed_sets, feed_set_start, feed_set_rest, feed_set_more, feed_item, feed_outer, feed_inner, feed_each_id, feed_limit, feed_limit_rate, feed_limit_rest, feed_formula, feed_terms_rest, feed_term, feed_leading, feed_sum_rest, feed_summand, feed_term_rate, feed_all, next, run, at, start}
 
 -- The states that can stand.
 
@@ -179,8 +179,8 @@ kept_sequence : (q : RawPath) (k : List Awaited) (n : ℕ) (t : Lexeme) → Take
 kept_sequence q _ n t (path_banged {k = k} g) = kept_sequence (NotPath q) k n t g
 kept_sequence q _ n t (in_seq {ls = ls} {ps = ps} {k = k} g) =
     kept_cond (begins_rep t) (feed_rep (reps (ls ++ q ∷ []) ∷ alts ps ∷ k) n t) (feed_alts (ps ++ cat_of (ls ++ q ∷ []) ∷ []) k n t)
-      (kept_rep (reps (ls ++ q ∷ []) ∷ alts ps ∷ k) n t (in_seq g))
-      (kept_alts (ps ++ cat_of (ls ++ q ∷ []) ∷ []) k n t g)
+    (kept_rep (reps (ls ++ q ∷ []) ∷ alts ps ∷ k) n t (in_seq g))
+    (kept_alts (ps ++ cat_of (ls ++ q ∷ []) ∷ []) k n t g)
 
 kept_prim : (p : RawPath) (b : Bool) (k : List Awaited) (n : ℕ) (t : Lexeme) → TakesRep k → IsKept (feed_prim p b k n t)
 kept_prim p b k n (sign signs.Star) g = good_prim g
@@ -364,7 +364,7 @@ closes_rep q _ n (in_seq {ls = ls} {ps = ps} (in_path_bracket {k = k} g)) =
       below = prim p false ∷ k;
       left = n;
       goes = at_bracket (ps ++ cat_of (ls ++ q ∷ []) ∷ []) k n;
-      closes = closes_prim p false k n (closes_rep p k n g)
+      closes = closes_prim p false k n (closes_rep p k n g);
     }
 closes_rep q _ n (in_seq {ls = ls} {ps = ps} (of_statement {h = h} {p = pred})) =
     let p = alt_of (ps ++ cat_of (ls ++ q ∷ []) ∷ []) in
@@ -375,7 +375,7 @@ closes_rep q _ n (in_seq {ls = ls} {ps = ps} (of_statement {h = h} {p = pred})) 
       below = formula (listed (closed o) None) ∷ [];
       left = 0;
       goes = at_end (ps ++ cat_of (ls ++ q ∷ []) ∷ []) (statement_path h pred ∷ []) n;
-      closes = closes_formula (listed (closed o) None) 0
+      closes = closes_formula (listed (closed o) None) 0;
     }
 closes_rep q _ n (in_seq {ls = ls} {ps = ps} (of_default {h = h})) =
     let p = alt_of (ps ++ cat_of (ls ++ q ∷ []) ∷ []) in
@@ -385,7 +385,7 @@ closes_rep q _ n (in_seq {ls = ls} {ps = ps} (of_default {h = h})) =
       below = formula (listed h (Some p)) ∷ [];
       left = 0;
       goes = at_end (ps ++ cat_of (ls ++ q ∷ []) ∷ []) (default_path h ∷ []) n;
-      closes = closes_formula (listed h (Some p)) 0
+      closes = closes_formula (listed h (Some p)) 0;
     }
 
 closes_path : (k : List Awaited) (n : ℕ) → 1 ≤ n → TakesRep k → IsClosable (rep ∷ k) n
@@ -427,9 +427,9 @@ either false y e = inr e
 closes_second : (a : List ℕ) (k : List Awaited) (n : ℕ) → is_first a ≡ true → TakesLit k → IsClosable (second a ∷ k) n
 closes_second a k n e g = ⊎_elim
     (λ e. ⊎_elim
-      (λ e. ⊎_elim (λ h. this (codes "eth") tested.EthSrc refl h) (λ h. this (codes "ip") tested.IpSrc refl h) (either _ _ e))
-      (λ h. this (codes "tcp") tested.TcpSrc refl h)
-      (either _ _ e))
+    (λ e. ⊎_elim (λ h. this (codes "eth") tested.EthSrc refl h) (λ h. this (codes "ip") tested.IpSrc refl h) (either _ _ e))
+    (λ h. this (codes "tcp") tested.TcpSrc refl h)
+    (either _ _ e))
     (λ h. this (codes "udp") tested.UdpSrc refl h)
     (either _ _ e)
   where

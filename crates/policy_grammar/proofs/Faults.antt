@@ -89,8 +89,8 @@ module _ (complete : (ts : List Lexeme) (w : WrittenPolicy) → StandsFor ts w �
       let whole : take (suc (length front)) (front ++ t ∷ rest) ≡ front ++ t ∷ [] = ap (λ n. take n (front ++ t ∷ rest)) (sym (add-one (length front))) ∙ take-append-add front (t ∷ rest) 1 in
       let text : take (suc (length front)) (front ++ t ∷ rest) ++ b.more ≡ front ++ t ∷ b.more = ap (λ xs. xs ++ b.more) whole ∙ append_assoc front (t ∷ []) b.more in
       not_both
-        (run-steps front (t ∷ b.more) start u reached ∙ ap (λ o. next o (suc (length b.more)) (λ x. run b.more x)) stuck)
-        (ap (λ xs. run xs start) (sym text) ∙ complete _ b.policy b.stands)
+      (run-steps front (t ∷ b.more) start u reached ∙ ap (λ o. next o (suc (length b.more)) (λ x. run b.more x)) stuck)
+      (ap (λ xs. run xs start) (sym text) ∙ complete _ b.policy b.stands)
 
   fault_at : (ts : List Lexeme) (m place : ℕ) → run ts start ≡ Err m → place + m ≡ length ts → IsFaultAt ts place
   fault_at ts m place e c =
@@ -102,7 +102,7 @@ module _ (complete : (ts : List Lexeme) (w : WrittenPolicy) → StandsFor ts w �
         within = omega arith;
         before = subst Begins (sym front) (begins a.front a.to a.reached);
         token = λ h b. no_more a.front a.rest a.to a.reached a.stuck (omega (arith, a.count)) (subst Begins (ap (λ n. take (suc n) ts) here ∙ ap (λ xs. take (suc (length a.front)) xs) a.is) b);
-        end = λ _ w s. not_both e (complete ts w s)
+        end = λ _ w s. not_both e (complete ts w s);
       }
 
   -- the run stops where no policy goes on

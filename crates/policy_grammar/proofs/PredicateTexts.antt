@@ -184,22 +184,22 @@ named a b f g e same =
 field_names : (a b : List ℕ) (g : Tested) → field_at a b ≡ Some g → AreNames a b g
 field_names a b g e = ⊎_elim (λ h. named a b tested.EthSrc g h.0 h.1)
     (λ e. ⊎_elim (λ h. named a b tested.EthDst g h.0 h.1)
-      (λ e. ⊎_elim (λ h. named a b tested.IpSrc g h.0 h.1)
-        (λ e. ⊎_elim (λ h. named a b tested.IpDst g h.0 h.1)
-          (λ e. ⊎_elim (λ h. named a b tested.IpProto g h.0 h.1)
-            (λ e. ⊎_elim (λ h. named a b tested.TcpSrc g h.0 h.1)
-              (λ e. ⊎_elim (λ h. named a b tested.TcpDst g h.0 h.1)
-                (λ e. ⊎_elim (λ h. named a b tested.UdpSrc g h.0 h.1)
-                  (λ e. ⊎_elim (λ h. named a b tested.UdpDst g h.0 h.1)
-                    (λ e. cc)
-                    (picked _ _ _ _ e))
-                  (picked _ _ _ _ e))
-                (picked _ _ _ _ e))
-              (picked _ _ _ _ e))
-            (picked _ _ _ _ e))
-          (picked _ _ _ _ e))
-        (picked _ _ _ _ e))
-      (picked _ _ _ _ e))
+    (λ e. ⊎_elim (λ h. named a b tested.IpSrc g h.0 h.1)
+    (λ e. ⊎_elim (λ h. named a b tested.IpDst g h.0 h.1)
+    (λ e. ⊎_elim (λ h. named a b tested.IpProto g h.0 h.1)
+    (λ e. ⊎_elim (λ h. named a b tested.TcpSrc g h.0 h.1)
+    (λ e. ⊎_elim (λ h. named a b tested.TcpDst g h.0 h.1)
+    (λ e. ⊎_elim (λ h. named a b tested.UdpSrc g h.0 h.1)
+    (λ e. ⊎_elim (λ h. named a b tested.UdpDst g h.0 h.1)
+    (λ e. cc)
+    (picked _ _ _ _ e))
+    (picked _ _ _ _ e))
+    (picked _ _ _ _ e))
+    (picked _ _ _ _ e))
+    (picked _ _ _ _ e))
+    (picked _ _ _ _ e))
+    (picked _ _ _ _ e))
+    (picked _ _ _ _ e))
     (picked _ _ _ _ e)
 
 -- the second name of a field
@@ -283,7 +283,7 @@ test_sound a p ts k (suc n) w h e =
       spelled = test_spelled a p names.field names.place ts dot.rest names.rest names.first dot.spelled names.spelled (equals.spelled ∙ ap (λ xs. sign signs.Equals ∷ xs) v.spelled);
       tests = omega arith;
       deep = omega arith;
-      goes = v.goes
+      goes = v.goes;
     }
 
 abbrev ConjSound : ℕ → Type 0
@@ -311,7 +311,7 @@ lit_sound m ih (sign signs.OpenGroup ∷ ts) k left w few h e =
       spelled = ap (λ xs. sign signs.OpenGroup ∷ xs) (d.spelled ∙ ap (λ xs. spell_pred d.tree ++ xs) c.1 ∙ sym (append_assoc (spell_pred d.tree) (sign signs.CloseGroup ∷ []) c.0));
       tests = d.tests;
       deep = omega (arith, d.deep);
-      goes = c.2
+      goes = c.2;
     }
   where
     group_ends : (p : Pred) (rest : List Lexeme) (k : List Awaited) (n : ℕ) (w : WrittenPolicy) → run rest (at (whole_pred p ∷ bracket ∷ k) n) ≡ Ok w → (after : List Lexeme) × (rest ≡ sign signs.CloseGroup ∷ after) × (run after (at (put p k) n) ≡ Ok w)
@@ -352,7 +352,7 @@ conj_given m ihc ihd ts ls ps k left w few h e =
           spelled = spelled ∙ ap (λ xs. spell_lit l ++ (word words.And ∷ xs)) c.spelled ∙ sym (append_assoc (spell_lit l) (word words.And ∷ spell_conj c.tree) c.rest);
           tests = omega (arith, c.tests);
           deep = omega (arith, c.deep);
-          goes = ap (λ vs. run c.rest (at (conjs (ps ++ all_of vs ∷ []) ∷ k) c.spare)) (sym (append_assoc ls (lit_value l ∷ []) (lit_values c.tree))) ∙ c.goes
+          goes = ap (λ vs. run c.rest (at (conjs (ps ++ all_of vs ∷ []) ∷ k) c.spare)) (sym (append_assoc ls (lit_value l ∷ []) (lit_values c.tree))) ∙ c.goes;
         }
     by l (_ ∷ rest) n spelled tests depth goes short = record { tree = lit l; rest = _ ∷ rest; spare = n; spelled = spelled; tests = tests; deep = depth; goes = goes }
 
@@ -373,7 +373,7 @@ disj_given m ihc ihd ts ps k left w few h e =
           spelled = spelled ∙ ap (λ xs. spell_conj c ++ (word words.Or ∷ xs)) d.spelled ∙ sym (append_assoc (spell_conj c) (word words.Or ∷ spell_pred d.tree) d.rest);
           tests = omega (arith, d.tests);
           deep = omega (arith, d.deep);
-          goes = ap (λ vs. run d.rest (at (whole_pred (any_of vs) ∷ k) d.spare)) (sym (append_assoc ps (all_of (lit_values c) ∷ []) (conj_values d.tree))) ∙ d.goes
+          goes = ap (λ vs. run d.rest (at (whole_pred (any_of vs) ∷ k) d.spare)) (sym (append_assoc ps (all_of (lit_values c) ∷ []) (conj_values d.tree))) ∙ d.goes;
         }
     by c (_ ∷ rest) n spelled tests depth goes short = record { tree = conj c; rest = _ ∷ rest; spare = n; spelled = spelled; tests = tests; deep = depth; goes = goes }
 

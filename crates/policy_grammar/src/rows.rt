@@ -18,39 +18,37 @@ pub fn default_row()
         ≡ Ok (record { sets = []; items = []; default_path = Some (Star Dot); terms = [] }) }
     ensures unclosed { run (sign signs.OpenList ∷ word words.Default ∷ sign signs.Arrow ∷ sign signs.Dot ∷ sign signs.Star ∷ []) start ≡ Err 0 }
     ensures nothing { run [] start ≡ Err 0 }
-{
-}
+{}
 
 /// `A := {10.0.0.1, 10.0.0.2, 10.0.0.1} [ foreach (s, d) in cross(A, A) : w : true -> .* ; default -> .* ]`.
 pub fn pairs_row()
     ensures value { run (name (codes "A") 0 ∷ sign signs.Becomes ∷ sign signs.OpenSet ∷ ip 167772161 ∷ sign signs.Comma ∷ ip 167772162 ∷ sign signs.Comma ∷ ip 167772161 ∷ sign signs.CloseSet
-            ∷ sign signs.OpenList ∷ word words.Foreach ∷ sign signs.OpenGroup ∷ name (codes "s") 47 ∷ sign signs.Comma ∷ name (codes "d") 50 ∷ sign signs.CloseGroup ∷ word words.In ∷ word words.Cross
-            ∷ sign signs.OpenGroup ∷ name (codes "A") 62 ∷ sign signs.Comma ∷ name (codes "A") 65 ∷ sign signs.CloseGroup ∷ sign signs.Colon ∷ name (codes "w") 70 ∷ sign signs.Colon
-            ∷ word words.True ∷ sign signs.Arrow ∷ sign signs.Dot ∷ sign signs.Star ∷ sign signs.Semicolon ∷ word words.Default ∷ sign signs.Arrow ∷ sign signs.Dot ∷ sign signs.Star ∷ sign signs.CloseList ∷ []) start
+        ∷ sign signs.OpenList ∷ word words.Foreach ∷ sign signs.OpenGroup ∷ name (codes "s") 47 ∷ sign signs.Comma ∷ name (codes "d") 50 ∷ sign signs.CloseGroup ∷ word words.In ∷ word words.Cross
+        ∷ sign signs.OpenGroup ∷ name (codes "A") 62 ∷ sign signs.Comma ∷ name (codes "A") 65 ∷ sign signs.CloseGroup ∷ sign signs.Colon ∷ name (codes "w") 70 ∷ sign signs.Colon
+        ∷ word words.True ∷ sign signs.Arrow ∷ sign signs.Dot ∷ sign signs.Star ∷ sign signs.Semicolon ∷ word words.Default ∷ sign signs.Arrow ∷ sign signs.Dot ∷ sign signs.Star ∷ sign signs.CloseList ∷ []) start
         ≡ Ok (record {
-            sets = record { name = codes "A"; literals = Ip 167772161 ∷ Ip 167772162 ∷ Ip 167772161 ∷ [] } ∷ [];
-            items = ForEach (codes "A") (codes "A") (record { id = codes "w"; pred = Yes; path = Star Dot; limits = [] }) ∷ [];
-            default_path = Some (Star Dot);
-            terms = [] }) }
-{
-}
+          sets = record { name = codes "A"; literals = Ip 167772161 ∷ Ip 167772162 ∷ Ip 167772161 ∷ [] } ∷ [];
+          items = ForEach (codes "A") (codes "A") (record { id = codes "w"; pred = Yes; path = Star Dot; limits = [] }) ∷ [];
+          default_path = Some (Star Dot);
+          terms = [];
+        }) }
+{}
 
 /// `[ x : true -> . at max(5kbps) ] , max(2kbps + x, 9kbps)`.
 pub fn rates_row()
     ensures value { run (sign signs.OpenList ∷ name (codes "x") 2 ∷ sign signs.Colon ∷ word words.True ∷ sign signs.Arrow ∷ sign signs.Dot ∷ word words.At ∷ word words.Max ∷ sign signs.OpenGroup ∷ rate 5 ∷ sign signs.CloseGroup
-            ∷ sign signs.CloseList ∷ sign signs.Comma ∷ word words.Max ∷ sign signs.OpenGroup ∷ rate 2 ∷ sign signs.Plus ∷ name (codes "x") 45 ∷ sign signs.Comma ∷ rate 9 ∷ sign signs.CloseGroup ∷ []) start
+        ∷ sign signs.CloseList ∷ sign signs.Comma ∷ word words.Max ∷ sign signs.OpenGroup ∷ rate 2 ∷ sign signs.Plus ∷ name (codes "x") 45 ∷ sign signs.Comma ∷ rate 9 ∷ sign signs.CloseGroup ∷ []) start
         ≡ Ok (record {
-            sets = [];
-            items = One (record { id = codes "x"; pred = Yes; path = Dot; limits = record { bound = Max; rate = 5 } ∷ [] }) ∷ [];
-            default_path = None;
-            terms = record { bound = Max; parts = Constant 2 ∷ Id (codes "x") ∷ []; rate = 9 } ∷ [] }) }
-{
-}
+          sets = [];
+          items = One (record { id = codes "x"; pred = Yes; path = Dot; limits = record { bound = Max; rate = 5 } ∷ [] }) ∷ [];
+          default_path = None;
+          terms = record { bound = Max; parts = Constant 2 ∷ Id (codes "x") ∷ []; rate = 9 } ∷ [];
+        }) }
+{}
 
 /// `[ x : ip.proto = 300 -> .* ]` stops at the number, and a 129th open bracket is one too many.
 pub fn limits_row()
     ensures proto { run (sign signs.OpenList ∷ name (codes "x") 2 ∷ sign signs.Colon ∷ name (codes "ip") 6 ∷ sign signs.Dot ∷ name (codes "proto") 9 ∷ sign signs.Equals ∷ number 300
         ∷ sign signs.Arrow ∷ sign signs.Dot ∷ sign signs.Star ∷ sign signs.CloseList ∷ []) start ≡ Err 5 }
     ensures brackets { run (sign signs.OpenList ∷ name (codes "x") 2 ∷ sign signs.Colon ∷ replicate 129 (sign signs.OpenGroup)) start ≡ Err 1 }
-{
-}
+{}

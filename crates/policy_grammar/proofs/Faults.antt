@@ -1,5 +1,7 @@
 -- What a run that stops says of the grammar, where the run of all lexemes is known to be the grammar.
-use Rattle.std.proofs.Common.{ℕ, ◌≡◌, ◌+◌, ◌-◌, ◌<◌, ◌≤◌, suc, zero, List, [], ◌∷◌, ◌++◌, Option, Some, None, Result, Ok, Err, ok_or, length, take, refl, sym, ap, ◌∙◌, subst, append_assoc, length-append, add-one, arith}
+use Rattle.std.proofs.Common.{ℕ, ◌≡◌, ◌+◌, ◌-◌, ◌<◌, ◌≤◌, suc, zero, List, [], ◌∷◌, ◌++◌, ⊎_elim, drop, append-nil, length-take, Option, Some, None, Result, Ok, Err, ok_or, length, take, refl, sym, ap, ◌∙◌, subst, append_assoc, length-append, add-one, arith}
+use Rattle.std.proofs.lemmas.Bool.{cases_lt}
+use Rattle.std.proofs.lemmas.List.{take-append-drop, take-append-le}
 use Rattle.std.proofs.Math.Seq.{take-append_seam, take-append-add}
 use Rattle.policy_grammar.specs.declared.written.WrittenPolicy.{WrittenPolicy}
 use Rattle.policy_grammar.specs.Lexemes.{Lexeme}
@@ -12,6 +14,33 @@ some_inj e = cc
 
 err_inj : {A B : Type 0} {x y : B} → (let r : Result A B = Err x in r) ≡ Err y → x ≡ y
 err_inj e = cc
+
+-- Of the grammar alone: a text has one fault at most, and none where it stands for a policy.
+
+begins-front : (ts : List Lexeme) (n : ℕ) → Begins ts → Begins (take n ts)
+begins-front ts n b = record {
+  more = drop n ts ++ b.more;
+  policy = b.policy;
+  stands = subst (λ xs. StandsFor xs b.policy) (ap (λ xs. xs ++ b.more) (sym (take-append-drop n ts)) ∙ append_assoc (take n ts) (drop n ts) b.more) b.stands;
+}
+
+no_earlier : (ts : List Lexeme) (m n : ℕ) → m < n → IsFaultAt ts m → IsFaultAt ts n → ⊥
+no_earlier ts m n h f g =
+  let inside : suc m ≤ length (take n ts) = omega (arith, g.within, length-take n ts) in
+  let front : take (suc m) (take n ts) ≡ take (suc m) ts = sym (take-append-le (suc m) (take n ts) (drop n ts) inside) ∙ ap (λ xs. take (suc m) xs) (take-append-drop n ts) in
+  f.token (omega (arith, g.within)) (subst Begins front (begins-front (take n ts) (suc m) g.before))
+
+pub one_fault : (ts : List Lexeme) (m n : ℕ) → IsFaultAt ts m → IsFaultAt ts n → m ≡ n
+one_fault ts m n f g = ⊎_elim
+  (λ h. absurd (no_earlier ts m n h f g))
+  (λ h. ⊎_elim (λ less. absurd (no_earlier ts n m less g f)) (λ more. omega (arith, h, more)) (cases_lt n m))
+  (cases_lt m n)
+
+pub fault-no_policy : (ts : List Lexeme) (n : ℕ) (w : WrittenPolicy) → IsFaultAt ts n → ¬ StandsFor ts w
+fault-no_policy ts n w f s = ⊎_elim
+  (λ h. f.token h (begins-front ts (suc n) (record { more = []; policy = w; stands = subst (λ xs. StandsFor xs w) (sym (append-nil ts)) s })))
+  (λ h. f.end (omega (arith, f.within)) w s)
+  (cases_lt n (length ts))
 
 -- The state after some lexemes.
 

@@ -1,6 +1,7 @@
 -- Reading a path: its lexemes lead to the state after it, and only the lexemes of a path lead there.
-use Rattle.std.proofs.Common.{if◌then◌else◌, ℕ, ◌≡◌, ◌+◌, ◌<◌, ◌≤◌, zero, suc, max, Bool, true, false, cond, List, [], ◌∷◌, ◌++◌, Option, Some, None, Result, Ok, Err, nat_lt, length, ok_or, refl, sym, ap, ◌∙◌, ◌⊎◌, inl, inr, ⊎_elim, append_assoc, arith}
+use Rattle.std.proofs.Common.{if◌then◌else◌, ℕ, ◌≡◌, ◌+◌, ◌<◌, ◌≤◌, zero, suc, Bool, true, false, cond, List, [], ◌∷◌, ◌++◌, Some, None, Result, Ok, nat_lt, length, ok_or, refl, sym, ap, ◌∙◌, ◌⊎◌, inl, inr, ⊎_elim, append_assoc, arith}
 use Rattle.std.proofs.lemmas.Bool.{lt-ltb, ltb-true}
+use Rattle.std.proofs.lemmas.List.{length-append}
 use Rattle.merlin_text.specs.declared.token.Sign.TheVariants as signs
 use Rattle.policy_grammar.specs.declared.written.RawPath.{RawPath, Dot, Named, Star, Not as NotPath}
 use Rattle.policy_grammar.specs.declared.written.WrittenPolicy.{WrittenPolicy}
@@ -206,32 +207,32 @@ record StarsRead (ts : List Lexeme) (f : ℕ → RawPath) (k : List Awaited) (n 
   goes : run rest (at (put_path (f count) k) n) ≡ Ok w
 
 -- a rep at the front, within the limits, and the run after it; and so a sequence, alternatives, a path
-pub record RepRead (ts : List Lexeme) (k : List Awaited) (left : ℕ) (w : WrittenPolicy) : Type 0 where
-  pub tree : Rep
-  pub rest : List Lexeme
-  pub spare : ℕ
-  pub spelled : ts ≡ spell_rep tree ++ rest
-  pub names : rep_names tree + spare ≡ left
-  pub deep : opens k + rep_depth tree ≤ 128
-  pub goes : run rest (at (put_path (rep_value tree) k) spare) ≡ Ok w
+record RepRead (ts : List Lexeme) (k : List Awaited) (left : ℕ) (w : WrittenPolicy) : Type 0 where
+  tree : Rep
+  rest : List Lexeme
+  spare : ℕ
+  spelled : ts ≡ spell_rep tree ++ rest
+  names : rep_names tree + spare ≡ left
+  deep : opens k + rep_depth tree ≤ 128
+  goes : run rest (at (put_path (rep_value tree) k) spare) ≡ Ok w
 
-pub record SeqRead (ts : List Lexeme) (ls ps : List RawPath) (k : List Awaited) (left : ℕ) (w : WrittenPolicy) : Type 0 where
-  pub tree : Seq
-  pub rest : List Lexeme
-  pub spare : ℕ
-  pub spelled : ts ≡ spell_seq tree ++ rest
-  pub names : seq_names tree + spare ≡ left
-  pub deep : opens k + seq_depth tree ≤ 128
-  pub goes : run rest (at (alts (ps ++ cat_of (ls ++ rep_values tree) ∷ []) ∷ k) spare) ≡ Ok w
+record SeqRead (ts : List Lexeme) (ls ps : List RawPath) (k : List Awaited) (left : ℕ) (w : WrittenPolicy) : Type 0 where
+  tree : Seq
+  rest : List Lexeme
+  spare : ℕ
+  spelled : ts ≡ spell_seq tree ++ rest
+  names : seq_names tree + spare ≡ left
+  deep : opens k + seq_depth tree ≤ 128
+  goes : run rest (at (alts (ps ++ cat_of (ls ++ rep_values tree) ∷ []) ∷ k) spare) ≡ Ok w
 
-pub record AltsRead (ts : List Lexeme) (ps : List RawPath) (k : List Awaited) (left : ℕ) (w : WrittenPolicy) : Type 0 where
-  pub tree : Alts
-  pub rest : List Lexeme
-  pub spare : ℕ
-  pub spelled : ts ≡ spell_path tree ++ rest
-  pub names : path_names tree + spare ≡ left
-  pub deep : opens k + path_depth tree ≤ 128
-  pub goes : run rest (at (whole_path (alt_of (ps ++ seq_values tree)) ∷ k) spare) ≡ Ok w
+record AltsRead (ts : List Lexeme) (ps : List RawPath) (k : List Awaited) (left : ℕ) (w : WrittenPolicy) : Type 0 where
+  tree : Alts
+  rest : List Lexeme
+  spare : ℕ
+  spelled : ts ≡ spell_path tree ++ rest
+  names : path_names tree + spare ≡ left
+  deep : opens k + path_depth tree ≤ 128
+  goes : run rest (at (whole_path (alt_of (ps ++ seq_values tree)) ∷ k) spare) ≡ Ok w
 
 pub record PathRead (ts : List Lexeme) (k : List Awaited) (left : ℕ) (w : WrittenPolicy) : Type 0 where
   pub tree : Alts
@@ -244,19 +245,15 @@ pub record PathRead (ts : List Lexeme) (k : List Awaited) (left : ℕ) (w : Writ
 
 -- Each phrase has a lexeme, so what follows it is shorter.
 
-length-rest : (x y : List Lexeme) → length y ≤ length (x ++ y)
-length-rest [] y = omega arith
-length-rest (_ ∷ x) y = omega (arith, length-rest x y)
-
 rep-shorter : (r : Rep) (y : List Lexeme) → length y < length (spell_rep r ++ y)
 rep-shorter (bang r) y = omega (arith, rep-shorter r y)
-rep-shorter (dot m) y = omega (arith, length-rest (stars m) y)
-rep-shorter (named _ _ m) y = omega (arith, length-rest (stars m) y)
-rep-shorter (group a m) y = omega (arith, length-rest (spell_path a ++ sign signs.CloseGroup ∷ stars m) y)
+rep-shorter (dot m) y = omega (arith, length-append (stars m) y)
+rep-shorter (named _ _ m) y = omega (arith, length-append (stars m) y)
+rep-shorter (group a m) y = omega (arith, length-append (spell_path a ++ sign signs.CloseGroup ∷ stars m) y)
 
 seq-shorter : (q : Seq) (y : List Lexeme) → length y < length (spell_seq q ++ y)
 seq-shorter (only r) y = rep-shorter r y
-seq-shorter (joined r q) y = omega (arith, ap length (append_assoc (spell_rep r) (spell_seq q) y), rep-shorter r (spell_seq q ++ y), length-rest (spell_seq q) y)
+seq-shorter (joined r q) y = omega (arith, ap length (append_assoc (spell_rep r) (spell_seq q) y), rep-shorter r (spell_seq q ++ y), length-append (spell_seq q) y)
 
 -- The steps of a run that goes well.
 
@@ -315,7 +312,7 @@ group_read ts k left w s r =
       spelled = ap (λ x. sign signs.OpenGroup ∷ x) (r.spelled ∙ ap (λ x. spell_path r.tree ++ x) (c.1 ∙ ap (λ x. sign signs.CloseGroup ∷ x) q.spelled) ∙ sym (append_assoc (spell_path r.tree) (sign signs.CloseGroup ∷ stars q.count) q.rest));
       names = r.names;
       deep = omega (arith, r.deep);
-      goes = q.goes
+      goes = q.goes;
     }
 
 rep_read : (m : ℕ) → PathsSound m → (ts : List Lexeme) (k : List Awaited) (left : ℕ) (w : WrittenPolicy) → length ts ≤ suc m → in_sequence k ≡ true → opens k ≤ 128 → run ts (at (rep ∷ k) left) ≡ Ok w → RepRead ts k left w
@@ -341,14 +338,14 @@ rep_read m paths (t ∷ ts) k (suc n) w l s o e = cc
 -- a rep, and the sequence after it
 seq_after : (ts : List Lexeme) (ls ps : List RawPath) (k : List Awaited) (left : ℕ) (w : WrittenPolicy) (r : RepRead ts (reps ls ∷ alts ps ∷ k) left w) → SeqRead r.rest (ls ++ rep_value r.tree ∷ []) ps k r.spare w → SeqRead ts ls ps k left w
 seq_after ts ls ps k left w r q = record {
-    tree = joined r.tree q.tree;
-    rest = q.rest;
-    spare = q.spare;
-    spelled = r.spelled ∙ ap (λ x. spell_rep r.tree ++ x) q.spelled ∙ sym (append_assoc (spell_rep r.tree) (spell_seq q.tree) q.rest);
-    names = omega (arith, r.names, q.names);
-    deep = omega (arith, r.deep, q.deep);
-    goes = ap (λ vs. run q.rest (at (alts (ps ++ cat_of vs ∷ []) ∷ k) q.spare)) (sym (append_assoc ls (rep_value r.tree ∷ []) (rep_values q.tree))) ∙ q.goes
-  }
+  tree = joined r.tree q.tree;
+  rest = q.rest;
+  spare = q.spare;
+  spelled = r.spelled ∙ ap (λ x. spell_rep r.tree ++ x) q.spelled ∙ sym (append_assoc (spell_rep r.tree) (spell_seq q.tree) q.rest);
+  names = omega (arith, r.names, q.names);
+  deep = omega (arith, r.deep, q.deep);
+  goes = ap (λ vs. run q.rest (at (alts (ps ++ cat_of vs ∷ []) ∷ k) q.spare)) (sym (append_assoc ls (rep_value r.tree ∷ []) (rep_values q.tree))) ∙ q.goes;
+}
 
 seq_read : (m : ℕ) → PathsSound m → (j : ℕ) (ts : List Lexeme) (ls ps : List RawPath) (k : List Awaited) (left : ℕ) (w : WrittenPolicy) → length ts ≤ j → length ts ≤ suc m → opens k ≤ 128 → run ts (at (rep ∷ reps ls ∷ alts ps ∷ k) left) ≡ Ok w → SeqRead ts ls ps k left w
 seq_read m paths zero [] ls ps k left w b l o e = cc
@@ -358,21 +355,21 @@ seq_read m paths (suc j) ts ls ps k left w b l o e =
     let shorter = rep-shorter r.tree r.rest in
     let same = ap length r.spelled in
     ⊎_elim
-      (λ more. seq_after ts ls ps k left w r (seq_read m paths j r.rest (ls ++ rep_value r.tree ∷ []) ps k r.spare w (omega (arith, shorter, same)) (omega (arith, shorter, same)) o more))
-      (λ goes. record { tree = only r.tree; rest = r.rest; spare = r.spare; spelled = r.spelled; names = r.names; deep = omega (arith, r.deep); goes = goes })
-      (rep_or_end r.rest (ls ++ rep_value r.tree ∷ []) ps k r.spare w r.goes)
+    (λ more. seq_after ts ls ps k left w r (seq_read m paths j r.rest (ls ++ rep_value r.tree ∷ []) ps k r.spare w (omega (arith, shorter, same)) (omega (arith, shorter, same)) o more))
+    (λ goes. record { tree = only r.tree; rest = r.rest; spare = r.spare; spelled = r.spelled; names = r.names; deep = omega (arith, r.deep); goes = goes })
+    (rep_or_end r.rest (ls ++ rep_value r.tree ∷ []) ps k r.spare w r.goes)
 
 -- a sequence, and the alternatives after its bar
 alts_after : (ts more : List Lexeme) (ps : List RawPath) (k : List Awaited) (left : ℕ) (w : WrittenPolicy) (q : SeqRead ts [] ps k left w) → q.rest ≡ sign signs.Bar ∷ more → AltsRead more (ps ++ cat_of (rep_values q.tree) ∷ []) k q.spare w → AltsRead ts ps k left w
 alts_after ts more ps k left w q bar a = record {
-    tree = or q.tree a.tree;
-    rest = a.rest;
-    spare = a.spare;
-    spelled = q.spelled ∙ ap (λ x. spell_seq q.tree ++ x) (bar ∙ ap (λ x. sign signs.Bar ∷ x) a.spelled) ∙ sym (append_assoc (spell_seq q.tree) (sign signs.Bar ∷ spell_path a.tree) a.rest);
-    names = omega (arith, q.names, a.names);
-    deep = omega (arith, q.deep, a.deep);
-    goes = ap (λ vs. run a.rest (at (whole_path (alt_of vs) ∷ k) a.spare)) (sym (append_assoc ps (cat_of (rep_values q.tree) ∷ []) (seq_values a.tree))) ∙ a.goes
-  }
+  tree = or q.tree a.tree;
+  rest = a.rest;
+  spare = a.spare;
+  spelled = q.spelled ∙ ap (λ x. spell_seq q.tree ++ x) (bar ∙ ap (λ x. sign signs.Bar ∷ x) a.spelled) ∙ sym (append_assoc (spell_seq q.tree) (sign signs.Bar ∷ spell_path a.tree) a.rest);
+  names = omega (arith, q.names, a.names);
+  deep = omega (arith, q.deep, a.deep);
+  goes = ap (λ vs. run a.rest (at (whole_path (alt_of vs) ∷ k) a.spare)) (sym (append_assoc ps (cat_of (rep_values q.tree) ∷ []) (seq_values a.tree))) ∙ a.goes;
+}
 
 alts_read : (m : ℕ) → PathsSound m → (j : ℕ) (ts : List Lexeme) (ps : List RawPath) (k : List Awaited) (left : ℕ) (w : WrittenPolicy) → length ts ≤ j → length ts ≤ suc m → opens k ≤ 128 → run ts (at (rep ∷ reps [] ∷ alts ps ∷ k) left) ≡ Ok w → AltsRead ts ps k left w
 alts_read m paths zero [] ps k left w b l o e = cc
@@ -382,9 +379,9 @@ alts_read m paths (suc j) ts ps k left w b l o e =
     let shorter = seq-shorter q.tree q.rest in
     let same = ap length q.spelled in
     ⊎_elim
-      (λ c. let bar = ap length c.1 in alts_after ts c.0 ps k left w q c.1 (alts_read m paths j c.0 (ps ++ cat_of (rep_values q.tree) ∷ []) k q.spare w (omega (arith, shorter, same, bar)) (omega (arith, shorter, same, bar)) o c.2))
-      (λ goes. record { tree = seq q.tree; rest = q.rest; spare = q.spare; spelled = q.spelled; names = q.names; deep = q.deep; goes = goes })
-      (bar_or_end q.rest (ps ++ cat_of (rep_values q.tree) ∷ []) k q.spare w q.goes)
+    (λ c. let bar = ap length c.1 in alts_after ts c.0 ps k left w q c.1 (alts_read m paths j c.0 (ps ++ cat_of (rep_values q.tree) ∷ []) k q.spare w (omega (arith, shorter, same, bar)) (omega (arith, shorter, same, bar)) o c.2))
+    (λ goes. record { tree = seq q.tree; rest = q.rest; spare = q.spare; spelled = q.spelled; names = q.names; deep = q.deep; goes = goes })
+    (bar_or_end q.rest (ps ++ cat_of (rep_values q.tree) ∷ []) k q.spare w q.goes)
 
 paths_sound : (m : ℕ) → PathsSound m
 paths_sound zero [] k left w l o e = cc

@@ -1,3 +1,4 @@
 pub mod PredicateTexts
+pub mod PathPhrases
 pub mod Closing
 pub mod Faults

@@ -1,1 +1,2 @@
 pub mod SingleTexts
+pub mod SetTexts

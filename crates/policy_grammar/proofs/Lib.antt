@@ -1,2 +1,3 @@
 pub mod SingleTexts
 pub mod SetTexts
+pub mod TermTexts

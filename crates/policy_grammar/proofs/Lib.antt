@@ -1,3 +1,5 @@
 pub mod SingleTexts
 pub mod SetTexts
 pub mod TermTexts
+pub mod PhraseLaws
+pub mod StatementTexts

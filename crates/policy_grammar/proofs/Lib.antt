@@ -3,3 +3,4 @@ pub mod SetTexts
 pub mod TermTexts
 pub mod PhraseLaws
 pub mod StatementTexts
+pub mod ItemTexts

@@ -9,10 +9,9 @@ use Rattle.policy_grammar.specs.declared.written.RawPath.{RawPath}
 use Rattle.policy_grammar.specs.declared.written.WrittenSet.{WrittenSet}
 use Rattle.policy_grammar.specs.declared.written.WrittenPolicy.{WrittenPolicy}
 use Rattle.policy_grammar.specs.Lexemes.{Lexeme, name, word, sign}
-use Rattle.policy_grammar.specs.Predicates.{spell_pred}
 use Rattle.policy_grammar.specs.PathTexts.{Alts, spell_path, path_value, path_names, IsWithin as IsPathWithin}
-use Rattle.policy_grammar.specs.Grammar.{NamePhrase, spell_name, StatementPhrase, spell_limits, spell_statement, ItemPhrase, one, each, spell_item, ListPhrase, ended, open_end, with_default, semicolons, spell_end, spell_list, item_value, items_of, default_of, default_value, IsStatementWithin, IsItemWithin, IsListWithin}
-use Rattle.policy_grammar.specs.Machine.{Head, Heading, this_sign, this_word, any_name, literal, lits, conjs, rep, reps, alts, whole_path, sets, item, outer_set, inner_set, each_id, statement_pred, default_path, formula, heading_of, with_item, listed, run, at}
+use Rattle.policy_grammar.specs.Grammar.{NamePhrase, spell_name, StatementPhrase, spell_statement, ItemPhrase, one, each, spell_item, ListPhrase, ended, open_end, with_default, semicolons, spell_end, spell_list, item_value, items_of, default_of, default_value, IsItemWithin, IsListWithin}
+use Rattle.policy_grammar.specs.Machine.{Head, this_sign, this_word, any_name, literal, lits, conjs, rep, reps, alts, whole_path, sets, item, outer_set, inner_set, each_id, statement_pred, default_path, formula, heading_of, with_item, listed, run, at}
 use Rattle.policy_grammar.proofs.SingleTexts.{took_sign, took_word, NameTaken, took_name}
 use Rattle.policy_grammar.proofs.PhraseLaws.{PhraseLaws}
 use Rattle.policy_grammar.proofs.StatementTexts.{end_sign, after_item, statement_body, reads_body, BodyTaken, took_body}
@@ -109,7 +108,7 @@ took_one id ts h w b =
       rest = b.rest;
       is = ap (λ xs. spell_name id ∷ xs) b.is ∙ sym (statement_spelled s (sign (end_sign b.closes) ∷ b.rest));
       within = record { pred = b.pred_within; path = b.path_within };
-      goes = b.goes
+      goes = b.goes;
     }
 
 took_outer : (ts : List Lexeme) (h : Head) (w : WrittenPolicy) → run ts (at (outer_set h ∷ []) 0) ≡ Ok w → NameTaken ts (λ a. at (this_sign signs.Comma ∷ inner_set h a ∷ []) 0) w
@@ -150,7 +149,7 @@ took_names ts h w e =
       second = d.phrase;
       rest = j.rest;
       is = names_joined b.phrase d.phrase ts a.rest b.rest c.rest d.rest f.rest g.rest i.rest j.rest a.is b.is c.is d.is f.is g.is i.is j.is;
-      goes = j.goes
+      goes = j.goes;
     }
   where
     names_joined : (first second : NamePhrase) (t a b c d f g i rest : List Lexeme) → t ≡ sign signs.OpenGroup ∷ a → a ≡ spell_name first ∷ b → b ≡ sign signs.Comma ∷ c → c ≡ spell_name second ∷ d → d ≡ sign signs.CloseGroup ∷ f → f ≡ word words.In ∷ g → g ≡ word words.Cross ∷ i → i ≡ sign signs.OpenGroup ∷ rest → t ≡ sign signs.OpenGroup ∷ spell_name first ∷ sign signs.Comma ∷ spell_name second ∷ sign signs.CloseGroup ∷ word words.In ∷ word words.Cross ∷ sign signs.OpenGroup ∷ rest
@@ -179,7 +178,7 @@ took_pair ts h w e =
       id = g.phrase;
       rest = g.rest;
       is = pair_joined a.phrase c.phrase g.phrase ts a.rest b.rest c.rest d.rest f.rest g.rest a.is b.is c.is d.is f.is g.is;
-      goes = g.goes
+      goes = g.goes;
     }
   where
     pair_joined : (outer inner id : NamePhrase) (t a b c d f rest : List Lexeme) → t ≡ spell_name outer ∷ a → a ≡ sign signs.Comma ∷ b → b ≡ spell_name inner ∷ c → c ≡ sign signs.CloseGroup ∷ d → d ≡ sign signs.Colon ∷ f → f ≡ spell_name id ∷ rest → t ≡ spell_name outer ∷ sign signs.Comma ∷ spell_name inner ∷ sign signs.CloseGroup ∷ sign signs.Colon ∷ spell_name id ∷ rest
@@ -193,11 +192,11 @@ took_each ts h w n p b =
       closes = b.closes;
       rest = b.rest;
       is = ap (λ xs. word words.Foreach ∷ xs) (n.is
-        ∙ ap (λ xs. sign signs.OpenGroup ∷ spell_name n.first ∷ sign signs.Comma ∷ spell_name n.second ∷ sign signs.CloseGroup ∷ word words.In ∷ word words.Cross ∷ sign signs.OpenGroup ∷ xs) (p.is
-        ∙ ap (λ xs. spell_name p.outer ∷ sign signs.Comma ∷ spell_name p.inner ∷ sign signs.CloseGroup ∷ sign signs.Colon ∷ xs)
+          ∙ ap (λ xs. sign signs.OpenGroup ∷ spell_name n.first ∷ sign signs.Comma ∷ spell_name n.second ∷ sign signs.CloseGroup ∷ word words.In ∷ word words.Cross ∷ sign signs.OpenGroup ∷ xs) (p.is
+          ∙ ap (λ xs. spell_name p.outer ∷ sign signs.Comma ∷ spell_name p.inner ∷ sign signs.CloseGroup ∷ sign signs.Colon ∷ xs)
           (ap (λ xs. spell_name p.id ∷ xs) b.is ∙ sym (statement_spelled s (sign (end_sign b.closes) ∷ b.rest)))));
       within = record { pred = b.pred_within; path = b.path_within };
-      goes = b.goes
+      goes = b.goes;
     }
 
 took_foreach : (laws : PhraseLaws) (ts : List Lexeme) (h : Head) (w : WrittenPolicy) → run (word words.Foreach ∷ ts) (at (item h ∷ []) 0) ≡ Ok w → ItemTaken (word words.Foreach ∷ ts) h w
@@ -247,12 +246,12 @@ cons-value i (with_default items path closed) h = ap (λ g. listed g (Some (path
 
 cons_taken : (i : ItemPhrase) (ts : List Lexeme) (h : Head) (w : WrittenPolicy) (y : List Lexeme) → ts ≡ spell_item i ++ sign signs.Semicolon ∷ y → IsItemWithin i → ListTaken y (with_item h (item_value i)) w → ListTaken ts h w
 cons_taken i ts h w y e within more = record {
-    phrase = cons_item i more.phrase;
-    rest = more.rest;
-    is = e ∙ ap (λ xs. spell_item i ++ (sign signs.Semicolon ∷ xs)) more.is ∙ cons-spell i more.phrase more.rest;
-    within = cons-within i more.phrase within more.within;
-    goes = subst (λ v. run more.rest (at (formula v ∷ []) 0) ≡ Ok w) (cons-value i more.phrase h) more.goes
-  }
+  phrase = cons_item i more.phrase;
+  rest = more.rest;
+  is = e ∙ ap (λ xs. spell_item i ++ (sign signs.Semicolon ∷ xs)) more.is ∙ cons-spell i more.phrase more.rest;
+  within = cons-within i more.phrase within more.within;
+  goes = subst (λ v. run more.rest (at (formula v ∷ []) 0) ≡ Ok w) (cons-value i more.phrase h) more.goes;
+}
 
 some_inj : {A : Type 0} {x y : A} → Some x ≡ Some y → x ≡ y
 some_inj e = cc
@@ -262,12 +261,12 @@ none_some e = cc
 
 last_taken : (i : ItemPhrase) (ts : List Lexeme) (h : Head) (w : WrittenPolicy) (y : List Lexeme) → ts ≡ spell_item i ++ sign signs.CloseList ∷ y → IsItemWithin i → run y (at (formula (listed (with_item h (item_value i)) None) ∷ []) 0) ≡ Ok w → ListTaken ts h w
 last_taken i ts h w y e within goes = record {
-    phrase = open_end [] i;
-    rest = y;
-    is = e ∙ sym (append_assoc (spell_item i) (sign signs.CloseList ∷ []) y);
-    within = record { items = (within, tt); default = λ path n. absurd (none_some n) };
-    goes = goes
-  }
+  phrase = open_end [] i;
+  rest = y;
+  is = e ∙ sym (append_assoc (spell_item i) (sign signs.CloseList ∷ []) y);
+  within = record { items = (within, tt); default = λ path n. absurd (none_some n) };
+  goes = goes;
+}
 
 record DefaultTaken (ts : List Lexeme) (h : Head) (w : WrittenPolicy) : Type 0 where
   path : Alts
@@ -302,7 +301,7 @@ took_default laws ts h w e =
       rest = end.rest;
       is = joined p.phrase ts arrow.rest p.rest (spell_end end.closed ++ end.rest) arrow.is p.is end.is;
       within = record { depth = omega (arith, p.depth); names = omega (arith, p.names) };
-      goes = end.goes
+      goes = end.goes;
     }
   where
     joined : (path : Alts) (t a b y : List Lexeme) → t ≡ sign signs.Arrow ∷ a → a ≡ spell_path path ++ b → b ≡ y → t ≡ sign signs.Arrow ∷ (spell_path path ++ y)
@@ -310,21 +309,21 @@ took_default laws ts h w e =
 
 default_taken : (ts : List Lexeme) (h : Head) (w : WrittenPolicy) → DefaultTaken ts h w → ListTaken (word words.Default ∷ ts) h w
 default_taken ts h w d = record {
-    phrase = with_default [] d.path d.closed;
-    rest = d.rest;
-    is = ap (λ xs. word words.Default ∷ xs) (d.is ∙ ap (λ xs. sign signs.Arrow ∷ xs) (sym (append_assoc (spell_path d.path) (spell_end d.closed) d.rest)));
-    within = record { items = tt; default = λ path e. subst IsPathWithin (some_inj e) d.within };
-    goes = subst (λ g. run d.rest (at (formula (listed g (Some (path_value d.path))) ∷ []) 0) ≡ Ok w) (sym (with_none h)) d.goes
-  }
+  phrase = with_default [] d.path d.closed;
+  rest = d.rest;
+  is = ap (λ xs. word words.Default ∷ xs) (d.is ∙ ap (λ xs. sign signs.Arrow ∷ xs) (sym (append_assoc (spell_path d.path) (spell_end d.closed) d.rest)));
+  within = record { items = tt; default = λ path e. subst IsPathWithin (some_inj e) d.within };
+  goes = subst (λ g. run d.rest (at (formula (listed g (Some (path_value d.path))) ∷ []) 0) ≡ Ok w) (sym (with_none h)) d.goes;
+}
 
 ended_taken : (ts : List Lexeme) (h : Head) (w : WrittenPolicy) → run ts (at (formula (listed h None) ∷ []) 0) ≡ Ok w → ListTaken (sign signs.CloseList ∷ ts) h w
 ended_taken ts h w e = record {
-    phrase = ended [];
-    rest = ts;
-    is = refl;
-    within = record { items = tt; default = λ path n. absurd (none_some n) };
-    goes = subst (λ g. run ts (at (formula (listed g None) ∷ []) 0) ≡ Ok w) (sym (with_none h)) e
-  }
+  phrase = ended [];
+  rest = ts;
+  is = refl;
+  within = record { items = tt; default = λ path n. absurd (none_some n) };
+  goes = subst (λ g. run ts (at (formula (listed g None) ∷ []) 0) ≡ Ok w) (sym (with_none h)) e;
+}
 
 item_taken : (ts : List Lexeme) (h : Head) (w : WrittenPolicy) (i : ItemTaken ts h w) → (run i.rest (at (item (with_item h (item_value i.phrase)) ∷ []) 0) ≡ Ok w → ListTaken i.rest (with_item h (item_value i.phrase)) w) → ListTaken ts h w
 item_taken ts h w i more = by i.closes i.is i.goes

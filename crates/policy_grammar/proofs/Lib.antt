@@ -4,3 +4,4 @@ pub mod TermTexts
 pub mod PhraseLaws
 pub mod StatementTexts
 pub mod ItemTexts
+pub mod PolicyTexts

@@ -1,5 +1,5 @@
 -- Sets: what is written is read, and what is read is written.
-use Rattle.std.proofs.Common.{ℕ, ◌≡◌, ◌+◌, ◌≤◌, suc, zero, List, [], ◌∷◌, ◌++◌, map, Result, Ok, length, refl, sym, ap, ◌∙◌, subst, append_assoc, append-nil, length-append, arith}
+use Rattle.std.proofs.Common.{ℕ, ◌≡◌, ◌≤◌, suc, zero, List, [], ◌∷◌, ◌++◌, map, Ok, length, refl, sym, ap, ◌∙◌, subst, append_assoc, append-nil, length-append, arith}
 use Rattle.merlin_text.specs.declared.token.Sign.TheVariants as signs
 use Rattle.policy_grammar.specs.declared.written.Literal.{Literal}
 use Rattle.policy_grammar.specs.declared.written.Literal.TheVariants.{Mac, Ip}
@@ -7,7 +7,7 @@ use Rattle.policy_grammar.specs.declared.written.WrittenSet.{WrittenSet}
 use Rattle.policy_grammar.specs.declared.written.WrittenPolicy.{WrittenPolicy}
 use Rattle.policy_grammar.specs.Lexemes.{Lexeme, name, sign, mac, ip, separated}
 use Rattle.policy_grammar.specs.Grammar.{NamePhrase, SetPhrase, spell_literal, spell_set, spell_sets, set_value}
-use Rattle.policy_grammar.specs.Machine.{Head, this_sign, sets, set_start, set_rest, set_more, item, with_set, run, at}
+use Rattle.policy_grammar.specs.Machine.{this_sign, sets, set_start, set_rest, set_more, item, with_set, run, at}
 use Rattle.policy_grammar.proofs.SingleTexts.{took_sign, preceded, separated-preceded}
 
 -- What is written is read.
@@ -57,11 +57,11 @@ record LiteralsTaken (ts : List Lexeme) (ss : List WrittenSet) (a : List ℕ) (l
 
 more_literals : (l : Literal) (ts : List Lexeme) (ss : List WrittenSet) (a : List ℕ) (ls : List Literal) (w : WrittenPolicy) → LiteralsTaken ts ss a (ls ++ l ∷ []) w → LiteralsTaken (sign signs.Comma ∷ spell_literal l ++ ts) ss a ls w
 more_literals l ts ss a ls w m = record {
-    literals = l ∷ m.literals;
-    rest = m.rest;
-    is = ap (λ xs. sign signs.Comma ∷ spell_literal l ++ xs) m.is ∙ ap (λ xs. sign signs.Comma ∷ xs) (sym (append_assoc (spell_literal l) (preceded (sign signs.Comma) spell_literal m.literals) (sign signs.CloseSet ∷ m.rest)));
-    goes = subst (λ xs. run m.rest (at (sets (with_set ss a xs) ∷ []) 0) ≡ Ok w) (append_assoc ls (l ∷ []) m.literals) m.goes
-  }
+  literals = l ∷ m.literals;
+  rest = m.rest;
+  is = ap (λ xs. sign signs.Comma ∷ spell_literal l ++ xs) m.is ∙ ap (λ xs. sign signs.Comma ∷ xs) (sym (append_assoc (spell_literal l) (preceded (sign signs.Comma) spell_literal m.literals) (sign signs.CloseSet ∷ m.rest)));
+  goes = subst (λ xs. run m.rest (at (sets (with_set ss a xs) ∷ []) 0) ≡ Ok w) (append_assoc ls (l ∷ []) m.literals) m.goes;
+}
 
 took_literals : (ts : List Lexeme) (ss : List WrittenSet) (a : List ℕ) (ls : List Literal) (w : WrittenPolicy) → run ts (at (set_rest ss a ls ∷ []) 0) ≡ Ok w → LiteralsTaken ts ss a ls w
 took_literals [] ss a ls w e = cc
@@ -80,13 +80,13 @@ record BodyTaken (ts : List Lexeme) (ss : List WrittenSet) (a : List ℕ) (w : W
 
 first_literal : (l : Literal) (ts : List Lexeme) (ss : List WrittenSet) (a : List ℕ) (w : WrittenPolicy) → LiteralsTaken ts ss a (l ∷ []) w → BodyTaken (spell_literal l ++ ts) ss a w
 first_literal l ts ss a w m = record {
-    literals = l ∷ m.literals;
-    rest = m.rest;
-    is = ap (λ xs. spell_literal l ++ xs) m.is
+  literals = l ∷ m.literals;
+  rest = m.rest;
+  is = ap (λ xs. spell_literal l ++ xs) m.is
       ∙ sym (append_assoc (spell_literal l) (preceded (sign signs.Comma) spell_literal m.literals) (sign signs.CloseSet ∷ m.rest))
       ∙ ap (λ xs. xs ++ sign signs.CloseSet ∷ m.rest) (sym (separated-preceded (sign signs.Comma) spell_literal l m.literals));
-    goes = m.goes
-  }
+  goes = m.goes;
+}
 
 took_body : (ts : List Lexeme) (ss : List WrittenSet) (a : List ℕ) (w : WrittenPolicy) → run ts (at (set_start ss a ∷ []) 0) ≡ Ok w → BodyTaken ts ss a w
 took_body [] ss a w e = cc
@@ -110,8 +110,8 @@ took_set ts ss a w e =
       phrase = record { name = a; literals = body.literals };
       rest = body.rest;
       is = ap (λ xs. name a.text a.place ∷ xs) (becomes.is ∙ ap (λ xs. sign signs.Becomes ∷ xs) (opened.is ∙ ap (λ xs. sign signs.OpenSet ∷ xs)
-        (body.is ∙ sym (append_assoc (separated (sign signs.Comma) spell_literal body.literals) (sign signs.CloseSet ∷ []) body.rest))));
-      goes = body.goes
+          (body.is ∙ sym (append_assoc (separated (sign signs.Comma) spell_literal body.literals) (sign signs.CloseSet ∷ []) body.rest))));
+      goes = body.goes;
     }
 
 pub record SetsTaken (ts : List Lexeme) (ss : List WrittenSet) (w : WrittenPolicy) : Type 0 where
@@ -125,11 +125,11 @@ shorter ts ss a w one = omega (arith, ap length one.is, length-append (spell_set
 
 more_sets : (ts : List Lexeme) (ss : List WrittenSet) (a : NamePhrase) (w : WrittenPolicy) (one : SetTaken ts ss a w) → SetsTaken one.rest (ss ++ set_value one.phrase ∷ []) w → SetsTaken (name a.text a.place ∷ ts) ss w
 more_sets ts ss a w one more = record {
-    phrases = one.phrase ∷ more.phrases;
-    rest = more.rest;
-    is = one.is ∙ ap (λ xs. spell_set one.phrase ++ xs) more.is ∙ sym (append_assoc (spell_set one.phrase) (spell_sets more.phrases) (sign signs.OpenList ∷ more.rest));
-    goes = subst (λ xs. run more.rest (at (item (record { sets = xs; items = [] }) ∷ []) 0) ≡ Ok w) (append_assoc ss (set_value one.phrase ∷ []) (map set_value more.phrases)) more.goes
-  }
+  phrases = one.phrase ∷ more.phrases;
+  rest = more.rest;
+  is = one.is ∙ ap (λ xs. spell_set one.phrase ++ xs) more.is ∙ sym (append_assoc (spell_set one.phrase) (spell_sets more.phrases) (sign signs.OpenList ∷ more.rest));
+  goes = subst (λ xs. run more.rest (at (item (record { sets = xs; items = [] }) ∷ []) 0) ≡ Ok w) (append_assoc ss (set_value one.phrase ∷ []) (map set_value more.phrases)) more.goes;
+}
 
 pub took_sets : (bound : ℕ) (ts : List Lexeme) (ss : List WrittenSet) (w : WrittenPolicy) → length ts ≤ bound → run ts (at (sets ss ∷ []) 0) ≡ Ok w → SetsTaken ts ss w
 took_sets bound [] ss w h e = cc

@@ -1,5 +1,5 @@
 -- Where one lexeme is awaited a text that is read begins with it; phrases with a lexeme before each.
-use Rattle.std.proofs.Common.{if◌then◌else◌, ℕ, ◌≡◌, Bool, true, false, cond, ◌==◌, List, [], ◌∷◌, ◌++◌, Some, None, Result, Ok, Err, length, suc, refl, sym, ap, ◌∙◌, append-nil, eqb-true}
+use Rattle.std.proofs.Common.{if◌then◌else◌, ℕ, ◌≡◌, Bool, true, false, ◌==◌, List, [], ◌∷◌, ◌++◌, None, Result, Ok, length, suc, refl, sym, ap, ◌∙◌, append-nil, eqb-true}
 use Rattle.merlin_text.specs.declared.token.Word.{Word}
 use Rattle.merlin_text.specs.declared.token.Word.TheVariants as words
 use Rattle.merlin_text.specs.declared.token.Sign.{Sign}

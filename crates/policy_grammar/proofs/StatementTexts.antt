@@ -9,7 +9,7 @@ use Rattle.merlin_text.specs.declared.token.Sign.TheVariants as signs
 use Rattle.policy_grammar.specs.declared.written.Limit.{Limit}
 use Rattle.policy_grammar.specs.declared.written.RawPath.{RawPath}
 use Rattle.policy_grammar.specs.declared.written.WrittenPolicy.{WrittenPolicy}
-use Rattle.policy_grammar.specs.Lexemes.{Lexeme, word, sign, rate, separated}
+use Rattle.policy_grammar.specs.Lexemes.{Lexeme, word, sign, rate}
 use Rattle.policy_grammar.specs.Predicates.{Disj, spell_pred, pred_value, pred_tests, IsWithin as IsPredWithin}
 use Rattle.policy_grammar.specs.PathTexts.{Alts, spell_path, path_value, path_names, IsWithin as IsPathWithin}
 use Rattle.policy_grammar.specs.Grammar.{bound_word, spell_limit, spell_limits, StatementPhrase, IsStatementWithin}
@@ -114,7 +114,7 @@ took_bound b ts o w e =
       phrase = record { bound = b; rate = number.value };
       rest = close.rest;
       is = limit_joined (record { bound = b; rate = number.value }) ts opened.rest number.rest close.rest opened.is number.is close.is;
-      goes = close.goes
+      goes = close.goes;
     }
 
 took_limit : (ts : List Lexeme) (o : Opened) (w : WrittenPolicy) → run ts (at (limit o ∷ []) 0) ≡ Ok w → LimitTaken ts o w
@@ -132,13 +132,13 @@ record LimitsTaken (ts : List Lexeme) (o : Opened) (w : WrittenPolicy) : Type 0 
 
 more_limits : (ts : List Lexeme) (o : Opened) (w : WrittenPolicy) (one : LimitTaken ts o w) → LimitsTaken one.rest (with_limits o (one.phrase ∷ [])) w → LimitsTaken (word words.And ∷ ts) o w
 more_limits ts o w one more = record {
-    limits = one.phrase ∷ more.limits;
-    closes = more.closes;
-    rest = more.rest;
-    is = ap (λ xs. word words.And ∷ xs) (one.is ∙ ap (λ xs. spell_limit one.phrase ++ xs) more.is
+  limits = one.phrase ∷ more.limits;
+  closes = more.closes;
+  rest = more.rest;
+  is = ap (λ xs. word words.And ∷ xs) (one.is ∙ ap (λ xs. spell_limit one.phrase ++ xs) more.is
       ∙ sym (append_assoc (spell_limit one.phrase) (preceded (word words.And) spell_limit more.limits) (sign (end_sign more.closes) ∷ more.rest)));
-    goes = subst (λ p. run more.rest (after_item more.closes (closed p)) ≡ Ok w) (with_more o one.phrase more.limits) more.goes
-  }
+  goes = subst (λ p. run more.rest (after_item more.closes (closed p)) ≡ Ok w) (with_more o one.phrase more.limits) more.goes;
+}
 
 shorter : (ts : List Lexeme) (o : Opened) (w : WrittenPolicy) (one : LimitTaken ts o w) → length one.rest ≤ length ts
 shorter ts o w one = omega (arith, ap length one.is, length-append (spell_limit one.phrase) one.rest)
@@ -162,14 +162,14 @@ record EndTaken (ts : List Lexeme) (h : Heading) (p : Pred) (path : RawPath) (w 
 
 first_limit : (ts : List Lexeme) (h : Heading) (p : Pred) (path : RawPath) (w : WrittenPolicy) (one : LimitTaken ts (opened_with h p path []) w) → LimitsTaken one.rest (opened_with h p path (one.phrase ∷ [])) w → EndTaken (word words.At ∷ ts) h p path w
 first_limit ts h p path w one more = record {
-    limits = one.phrase ∷ more.limits;
-    closes = more.closes;
-    rest = more.rest;
-    is = ap (λ xs. word words.At ∷ xs) (one.is ∙ ap (λ xs. spell_limit one.phrase ++ xs) more.is
+  limits = one.phrase ∷ more.limits;
+  closes = more.closes;
+  rest = more.rest;
+  is = ap (λ xs. word words.At ∷ xs) (one.is ∙ ap (λ xs. spell_limit one.phrase ++ xs) more.is
       ∙ sym (append_assoc (spell_limit one.phrase) (preceded (word words.And) spell_limit more.limits) (sign (end_sign more.closes) ∷ more.rest))
       ∙ ap (λ xs. xs ++ sign (end_sign more.closes) ∷ more.rest) (sym (separated-preceded (word words.And) spell_limit one.phrase more.limits)));
-    goes = more.goes
-  }
+  goes = more.goes;
+}
 
 took_end : (ts : List Lexeme) (h : Heading) (p : Pred) (path : RawPath) (n : ℕ) (w : WrittenPolicy) → run ts (at (whole_path path ∷ statement_path h p ∷ []) n) ≡ Ok w → EndTaken ts h p path w
 took_end [] h p path n w e = cc
@@ -216,5 +216,5 @@ took_body laws ts h w e =
       is = body_joined p.phrase q.phrase end.limits ts colon.rest p.rest arrow.rest q.rest (sign (end_sign end.closes) ∷ end.rest) colon.is p.is arrow.is q.is end.is;
       pred_within = record { depth = omega (arith, p.depth); tests = omega (arith, p.tests) };
       path_within = record { depth = omega (arith, q.depth); names = omega (arith, q.names) };
-      goes = end.goes
+      goes = end.goes;
     }

@@ -1,5 +1,5 @@
 -- Terms: what is written is read, and what is read is written.
-use Rattle.std.proofs.Common.{ℕ, ◌≡◌, ◌+◌, ◌≤◌, suc, zero, List, [], ◌∷◌, ◌++◌, map, Result, Ok, length, refl, sym, ap, ◌∙◌, subst, append_assoc, append-nil, length-append, arith}
+use Rattle.std.proofs.Common.{ℕ, ◌≡◌, ◌≤◌, suc, zero, List, [], ◌∷◌, ◌++◌, map, Result, Ok, length, refl, sym, ap, ◌∙◌, subst, append_assoc, append-nil, length-append, arith}
 use Rattle.merlin_model.specs.declared.policy.Bound.{Bound}
 use Rattle.merlin_model.specs.declared.policy.Bound.TheVariants.{Max, Min}
 use Rattle.merlin_model.specs.declared.policy.Part.{Part}
@@ -8,9 +8,9 @@ use Rattle.merlin_model.specs.declared.policy.Term.{Term}
 use Rattle.merlin_text.specs.declared.token.Word.TheVariants as words
 use Rattle.merlin_text.specs.declared.token.Sign.TheVariants as signs
 use Rattle.policy_grammar.specs.declared.written.WrittenPolicy.{WrittenPolicy}
-use Rattle.policy_grammar.specs.Lexemes.{Lexeme, name, word, sign, rate, separated}
+use Rattle.policy_grammar.specs.Lexemes.{Lexeme, name, word, sign, rate}
 use Rattle.policy_grammar.specs.Grammar.{NamePhrase, spell_name, bound_word, Summand, id, constant, TermPhrase, spell_leading, spell_summand, spell_added, spell_term, spell_terms, summand_value, term_value}
-use Rattle.policy_grammar.specs.Machine.{this_sign, formula, terms_rest, term, leading, sum_rest, summand, term_rate, with_term, State, run, at}
+use Rattle.policy_grammar.specs.Machine.{this_sign, formula, terms_rest, term, leading, sum_rest, term_rate, with_term, run, at}
 use Rattle.policy_grammar.proofs.SingleTexts.{ok_inj, took_sign, RateTaken, preceded, separated-preceded}
 
 -- the policy with these terms after its own
@@ -85,11 +85,11 @@ record AddedTaken (ts : List Lexeme) (w : WrittenPolicy) (b : Bound) (parts : Li
 
 one_added : (s : Summand) (ts : List Lexeme) (w : WrittenPolicy) (b : Bound) (parts : List Part) (v : WrittenPolicy) → AddedTaken ts w b (parts ++ summand_value s ∷ []) v → AddedTaken (sign signs.Plus ∷ spell_summand s ∷ ts) w b parts v
 one_added s ts w b parts v m = record {
-    added = s ∷ m.added;
-    rest = m.rest;
-    is = ap (λ xs. sign signs.Plus ∷ spell_summand s ∷ xs) m.is;
-    goes = subst (λ xs. run m.rest (at (term_rate w b xs ∷ []) 0) ≡ Ok v) (append_assoc parts (summand_value s ∷ []) (map summand_value m.added)) m.goes
-  }
+  added = s ∷ m.added;
+  rest = m.rest;
+  is = ap (λ xs. sign signs.Plus ∷ spell_summand s ∷ xs) m.is;
+  goes = subst (λ xs. run m.rest (at (term_rate w b xs ∷ []) 0) ≡ Ok v) (append_assoc parts (summand_value s ∷ []) (map summand_value m.added)) m.goes;
+}
 
 took_added : (ts : List Lexeme) (w : WrittenPolicy) (b : Bound) (parts : List Part) (v : WrittenPolicy) → run ts (at (sum_rest w b parts ∷ []) 0) ≡ Ok v → AddedTaken ts w b parts v
 took_added [] w b parts v e = cc
@@ -109,12 +109,12 @@ record LeadingTaken (ts : List Lexeme) (w : WrittenPolicy) (b : Bound) (parts : 
 
 one_leading : (n : ℕ) (ts : List Lexeme) (w : WrittenPolicy) (b : Bound) (parts : List Part) (v : WrittenPolicy) → LeadingTaken ts w b (parts ++ Constant n ∷ []) v → LeadingTaken (rate n ∷ sign signs.Plus ∷ ts) w b parts v
 one_leading n ts w b parts v m = record {
-    rates = n ∷ m.rates;
-    first = m.first;
-    rest = m.rest;
-    is = ap (λ xs. rate n ∷ sign signs.Plus ∷ xs) m.is;
-    goes = subst (λ xs. run m.rest (at (sum_rest w b xs ∷ []) 0) ≡ Ok v) (append_assoc parts (Constant n ∷ []) (map Constant m.rates ++ Id m.first.text ∷ [])) m.goes
-  }
+  rates = n ∷ m.rates;
+  first = m.first;
+  rest = m.rest;
+  is = ap (λ xs. rate n ∷ sign signs.Plus ∷ xs) m.is;
+  goes = subst (λ xs. run m.rest (at (sum_rest w b xs ∷ []) 0) ≡ Ok v) (append_assoc parts (Constant n ∷ []) (map Constant m.rates ++ Id m.first.text ∷ [])) m.goes;
+}
 
 took_leading : (ts : List Lexeme) (w : WrittenPolicy) (b : Bound) (parts : List Part) (v : WrittenPolicy) → run ts (at (leading w b parts ∷ []) 0) ≡ Ok v → LeadingTaken ts w b parts v
 took_leading [] w b parts v e = cc
@@ -138,9 +138,9 @@ record TermTaken (ts : List Lexeme) (w : WrittenPolicy) (v : WrittenPolicy) : Ty
 joined : (t : TermPhrase) (ts a b c d rest : List Lexeme) → ts ≡ sign signs.OpenGroup ∷ a → a ≡ spell_leading t.leading ++ spell_name t.first ∷ b → b ≡ spell_added t.added ++ sign signs.Comma ∷ c → c ≡ rate t.rate ∷ d → d ≡ sign signs.CloseGroup ∷ rest → word (bound_word t.bound) ∷ ts ≡ spell_term t ++ rest
 joined t ts a b c d rest p q r s u =
     ap (λ xs. word (bound_word t.bound) ∷ xs) (p ∙ ap (λ xs. sign signs.OpenGroup ∷ xs)
-      (q ∙ ap (λ xs. spell_leading t.leading ++ spell_name t.first ∷ xs)
-      (r ∙ ap (λ xs. spell_added t.added ++ sign signs.Comma ∷ xs)
-      (s ∙ ap (λ xs. rate t.rate ∷ xs) u))))
+    (q ∙ ap (λ xs. spell_leading t.leading ++ spell_name t.first ∷ xs)
+    (r ∙ ap (λ xs. spell_added t.added ++ sign signs.Comma ∷ xs)
+    (s ∙ ap (λ xs. rate t.rate ∷ xs) u))))
     ∙ sym (term_spelled t rest)
 
 took_bounded : (b : Bound) (ts : List Lexeme) (w v : WrittenPolicy) → run ts (at (this_sign signs.OpenGroup ∷ leading w b [] ∷ []) 0) ≡ Ok v → TermTaken (word (bound_word b) ∷ ts) w v
@@ -156,7 +156,7 @@ took_bounded b ts w v e =
       phrase = phrase;
       rest = close.rest;
       is = joined phrase ts opened.rest front.rest more.rest last.rest close.rest opened.is front.is more.is last.is close.is;
-      goes = subst (λ xs. run close.rest (at (terms_rest (with_term w b xs last.value) ∷ []) 0) ≡ Ok v) (append_assoc (map Constant front.rates) (Id front.first.text ∷ []) (map summand_value more.added)) close.goes
+      goes = subst (λ xs. run close.rest (at (terms_rest (with_term w b xs last.value) ∷ []) 0) ≡ Ok v) (append_assoc (map Constant front.rates) (Id front.first.text ∷ []) (map summand_value more.added)) close.goes;
     }
 
 took_term : (ts : List Lexeme) (w v : WrittenPolicy) → run ts (at (term w ∷ []) 0) ≡ Ok v → TermTaken ts w v
@@ -172,10 +172,10 @@ record RestTaken (ts : List Lexeme) (w v : WrittenPolicy) : Type 0 where
 
 one_more : (ts : List Lexeme) (w v : WrittenPolicy) (one : TermTaken ts w v) → RestTaken one.rest (with_terms w (term_value one.phrase ∷ [])) v → RestTaken (word words.And ∷ ts) w v
 one_more ts w v one more = record {
-    phrases = one.phrase ∷ more.phrases;
-    is = ap (λ xs. word words.And ∷ xs) (one.is ∙ ap (λ xs. spell_term one.phrase ++ xs) more.is);
-    value = sym (with_more w (term_value one.phrase) (map term_value more.phrases)) ∙ more.value
-  }
+  phrases = one.phrase ∷ more.phrases;
+  is = ap (λ xs. word words.And ∷ xs) (one.is ∙ ap (λ xs. spell_term one.phrase ++ xs) more.is);
+  value = sym (with_more w (term_value one.phrase) (map term_value more.phrases)) ∙ more.value;
+}
 
 shorter : (ts : List Lexeme) (w v : WrittenPolicy) (one : TermTaken ts w v) → length one.rest ≤ length ts
 shorter ts w v one = omega (arith, ap length one.is, length-append (spell_term one.phrase) one.rest)
@@ -195,10 +195,10 @@ pub record TermsTaken (ts : List Lexeme) (w v : WrittenPolicy) : Type 0 where
 
 first_term : (ts : List Lexeme) (w v : WrittenPolicy) (one : TermTaken ts w v) → RestTaken one.rest (with_terms w (term_value one.phrase ∷ [])) v → TermsTaken (sign signs.Comma ∷ ts) w v
 first_term ts w v one more = record {
-    phrases = one.phrase ∷ more.phrases;
-    is = ap (λ xs. sign signs.Comma ∷ xs) (one.is ∙ ap (λ xs. spell_term one.phrase ++ xs) more.is ∙ sym (separated-preceded (word words.And) spell_term one.phrase more.phrases));
-    value = sym (with_more w (term_value one.phrase) (map term_value more.phrases)) ∙ more.value
-  }
+  phrases = one.phrase ∷ more.phrases;
+  is = ap (λ xs. sign signs.Comma ∷ xs) (one.is ∙ ap (λ xs. spell_term one.phrase ++ xs) more.is ∙ sym (separated-preceded (word words.And) spell_term one.phrase more.phrases));
+  value = sym (with_more w (term_value one.phrase) (map term_value more.phrases)) ∙ more.value;
+}
 
 pub took_terms : (ts : List Lexeme) (w v : WrittenPolicy) → run ts (at (formula w ∷ []) 0) ≡ Ok v → TermsTaken ts w v
 took_terms [] w v e = record { phrases = []; is = refl; value = with_none w ∙ ok_inj e }

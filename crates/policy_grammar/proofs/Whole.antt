@@ -1,5 +1,5 @@
 -- The run of all lexemes is the grammar.
-use Rattle.std.proofs.Common.{ℕ, ◌≡◌, ◌-◌, ◌≤◌, List, Ok, Err, length}
+use Rattle.std.proofs.Common.{ℕ, ◌≡◌, ◌-◌, ◌≤◌, ◌⊎◌, inl, inr, List, Result, Ok, Err, length, refl, sym, ◌∙◌}
 use Rattle.policy_grammar.specs.declared.written.WrittenPolicy.{WrittenPolicy}
 use Rattle.policy_grammar.specs.Lexemes.{Lexeme}
 use Rattle.policy_grammar.specs.Grammar.{StandsFor, IsFaultAt}
@@ -26,3 +26,16 @@ sound ls w e = texts.sound phrase_laws ls w e
 
 pub fault : (ls : List Lexeme) (n : ℕ) → run ls start ≡ Err n → (n ≤ length ls) × IsFaultAt ls (length ls - n)
 fault ls n e = faults.fault complete sound ls n e
+
+ok_inj : {A B : Type 0} {x y : A} → (let r : Result A B = Ok x in r) ≡ Ok y → x ≡ y
+ok_inj e = cc
+
+pub one_policy : (ls : List Lexeme) (v w : WrittenPolicy) → StandsFor ls v → StandsFor ls w → v ≡ w
+one_policy ls v w s t = ok_inj (sym (complete ls v s) ∙ complete ls w t)
+
+pub policy_or_fault : (ls : List Lexeme) → ((w : WrittenPolicy) × StandsFor ls w) ⊎ ((n : ℕ) × IsFaultAt ls n)
+policy_or_fault ls = by (run ls start) refl
+  where
+    by : (r : Result WrittenPolicy ℕ) → run ls start ≡ r → ((w : WrittenPolicy) × StandsFor ls w) ⊎ ((n : ℕ) × IsFaultAt ls n)
+    by (Ok w) e = inl (w, sound ls w e)
+    by (Err n) e = inr (length ls - n, (fault ls n e).1)

@@ -1,6 +1,6 @@
 //! Laws of the grammar, and that the machine is the grammar. Each is the contract of a function that does nothing.
 
-ghost use Rattle.std.specs.Prelude.{◌≡◌, ◌≤◌, ◌-◌, ℕ, List, length, Ok, Err};
+ghost use Rattle.std.specs.Prelude.{◌≡◌, ◌≤◌, ◌-◌, ℕ, List, length, Ok, Err, ◌⊎◌};
 ghost use Rattle.policy_grammar.specs.declared.written.WrittenPolicy.{WrittenPolicy};
 ghost use Rattle.policy_grammar.specs.Lexemes.{Lexeme};
 ghost use Rattle.policy_grammar.specs.Grammar.{StandsFor, IsFaultAt};
@@ -19,6 +19,16 @@ pub fn sound()
 /// Where the reading stops, with some lexemes left, no policy goes on.
 pub fn fault()
     ensures { (lexemes : List Lexeme) (left : ℕ) → run lexemes start ≡ Err left → (left ≤ length lexemes) × IsFaultAt lexemes (length lexemes - left) }
+{}
+
+/// Lexemes stand for one policy at most.
+pub fn one_policy()
+    ensures { (lexemes : List Lexeme) (p q : WrittenPolicy) → StandsFor lexemes p → StandsFor lexemes q → p ≡ q }
+{}
+
+/// Lexemes stand for a policy, or stop being one somewhere.
+pub fn policy_or_fault()
+    ensures { (lexemes : List Lexeme) → ((policy : WrittenPolicy) × StandsFor lexemes policy) ⊎ ((n : ℕ) × IsFaultAt lexemes n) }
 {}
 
 /// Lexemes stop being a policy at one place.

@@ -26,21 +26,21 @@ begins-front ts n b = record {
 
 no_earlier : (ts : List Lexeme) (m n : ℕ) → m < n → IsFaultAt ts m → IsFaultAt ts n → ⊥
 no_earlier ts m n h f g =
-  let inside : suc m ≤ length (take n ts) = omega (arith, g.within, length-take n ts) in
-  let front : take (suc m) (take n ts) ≡ take (suc m) ts = sym (take-append-le (suc m) (take n ts) (drop n ts) inside) ∙ ap (λ xs. take (suc m) xs) (take-append-drop n ts) in
-  f.token (omega (arith, g.within)) (subst Begins front (begins-front (take n ts) (suc m) g.before))
+    let inside : suc m ≤ length (take n ts) = omega (arith, g.within, length-take n ts) in
+    let front : take (suc m) (take n ts) ≡ take (suc m) ts = sym (take-append-le (suc m) (take n ts) (drop n ts) inside) ∙ ap (λ xs. take (suc m) xs) (take-append-drop n ts) in
+    f.token (omega (arith, g.within)) (subst Begins front (begins-front (take n ts) (suc m) g.before))
 
 pub one_fault : (ts : List Lexeme) (m n : ℕ) → IsFaultAt ts m → IsFaultAt ts n → m ≡ n
 one_fault ts m n f g = ⊎_elim
-  (λ h. absurd (no_earlier ts m n h f g))
-  (λ h. ⊎_elim (λ less. absurd (no_earlier ts n m less g f)) (λ more. omega (arith, h, more)) (cases_lt n m))
-  (cases_lt m n)
+    (λ h. absurd (no_earlier ts m n h f g))
+    (λ h. ⊎_elim (λ less. absurd (no_earlier ts n m less g f)) (λ more. omega (arith, h, more)) (cases_lt n m))
+    (cases_lt m n)
 
 pub fault-no_policy : (ts : List Lexeme) (n : ℕ) (w : WrittenPolicy) → IsFaultAt ts n → ¬ StandsFor ts w
 fault-no_policy ts n w f s = ⊎_elim
-  (λ h. f.token h (begins-front ts (suc n) (record { more = []; policy = w; stands = subst (λ xs. StandsFor xs w) (sym (append-nil ts)) s })))
-  (λ h. f.end (omega (arith, f.within)) w s)
-  (cases_lt n (length ts))
+    (λ h. f.token h (begins-front ts (suc n) (record { more = []; policy = w; stands = subst (λ xs. StandsFor xs w) (sym (append-nil ts)) s })))
+    (λ h. f.end (omega (arith, f.within)) w s)
+    (cases_lt n (length ts))
 
 -- The state after some lexemes.
 

@@ -1,19 +1,19 @@
 -- Predicates: the run over the lexemes of one goes on as the grammar says, and a run that ends well has read one.
-use Rattle.std.proofs.Common.{if◌then◌else◌, ℕ, ◌≡◌, ◌+◌, ◌<◌, ◌≤◌, ◌==◌, ◌&&◌, ◌⊎◌, inl, inr, ⊎_elim, zero, suc, Bool, true, false, cond, List, [], ◌∷◌, ◌++◌, Option, Some, None, Result, Ok, nat_lt, length, length-append, refl, sym, ap, ◌∙◌, subst, append_assoc, arith}
+use Rattle.std.proofs.Common.{if◌then◌else◌, ℕ, ◌≡◌, ◌+◌, ◌<◌, ◌≤◌, ◌&&◌, ◌⊎◌, inl, inr, ⊎_elim, zero, suc, Bool, true, false, cond, List, [], ◌∷◌, ◌++◌, Option, Some, None, Result, Ok, nat_lt, length, length-append, refl, sym, ap, ◌∙◌, subst, append_assoc, arith}
 use Rattle.std.specs.Prelude.{bytes_eq}
-use Rattle.std.proofs.lemmas.Bool.{lt-ltb, ltb-true, eqb-true}
+use Rattle.std.proofs.lemmas.Bool.{lt-ltb, ltb-true}
 use Rattle.std.proofs.lemmas.Slice.Eq.{bytes_eq-Decides}
 use Rattle.merlin_model.specs.declared.policy.Test.{Test}
 use Rattle.merlin_model.specs.declared.policy.Pred.{Pred, Yes, No, Test as Tests}
 use Rattle.merlin_text.specs.declared.token.Word.TheVariants as words
-use Rattle.merlin_text.specs.declared.token.Sign.{Sign}
 use Rattle.merlin_text.specs.declared.token.Sign.TheVariants as signs
 use Rattle.policy_grammar.specs.declared.written.Tested.{Tested}
 use Rattle.policy_grammar.specs.declared.written.Tested.TheVariants as tested
 use Rattle.policy_grammar.specs.declared.written.WrittenPolicy.{WrittenPolicy}
 use Rattle.policy_grammar.specs.Lexemes.{Lexeme, name, word, sign}
 use Rattle.policy_grammar.specs.Predicates.{first_of, second_of, test_of, Lit, bang, group, yes, no, test, Conj, lit, and, Disj, conj, or, spell_lit, spell_conj, spell_pred, lit_value, lit_values, conj_values, pred_value, lit_depth, conj_depth, pred_depth, lit_tests, conj_tests, pred_tests, all_of, any_of}
-use Rattle.policy_grammar.specs.Machine.{Awaited, this_sign, literal, negation, lits, conjs, whole_pred, bracket, second, value_of, State, opens, put, sign_number, is_first, field_at, then_some, on, next, run, at}
+use Rattle.policy_grammar.specs.Machine.{Awaited, this_sign, literal, negation, lits, conjs, whole_pred, bracket, second, value_of, State, opens, put, is_first, field_at, then_some, on, next, run, at}
+use Rattle.policy_grammar.proofs.SingleTexts.{took_sign}
 
 some_inj : {A : Type 0} {x y : A} → Some x ≡ Some y → x ≡ y
 some_inj e = cc
@@ -120,47 +120,6 @@ next_ok false s m f w e = cc
 found : {A : Type 0} (o : Option A) (g : A → State) (m : ℕ) (f : State → Result WrittenPolicy ℕ) (w : WrittenPolicy) → next (then_some o (λ x. Some (g x))) m f ≡ Ok w → (x : A) × (o ≡ Some x) × (f (g x) ≡ Ok w)
 found None g m f w e = cc
 found (Some x) g m f w e = (x, refl, e)
-
--- the sign of a number
-abbrev numbered : ℕ → Sign
-numbered n =
-    if n == 0 then signs.Becomes
-    else if n == 1 then signs.Arrow
-    else if n == 2 then signs.OpenList
-    else if n == 3 then signs.CloseList
-    else if n == 4 then signs.OpenGroup
-    else if n == 5 then signs.CloseGroup
-    else if n == 6 then signs.OpenSet
-    else if n == 7 then signs.CloseSet
-    else if n == 8 then signs.Colon
-    else if n == 9 then signs.Semicolon
-    else if n == 10 then signs.Comma
-    else if n == 11 then signs.Equals
-    else if n == 12 then signs.Plus
-    else if n == 13 then signs.Star
-    else if n == 14 then signs.Bang
-    else if n == 15 then signs.Dot
-    else signs.Bar
-
-numbered_back : (s : Sign) → numbered (sign_number s) ≡ s
-numbered_back signs.Becomes = refl
-numbered_back _ = refl
-
-same_sign : (s t : Sign) → (sign_number s == sign_number t) ≡ true → s ≡ t
-same_sign s t e = sym (numbered_back s) ∙ ap numbered (eqb-true (sign_number s) (sign_number t) e) ∙ numbered_back t
-
--- a sign that is awaited
-pub record SignRead (s : Sign) (ts : List Lexeme) (k : List Awaited) (n : ℕ) (w : WrittenPolicy) : Type 0 where
-  pub rest : List Lexeme
-  pub spelled : ts ≡ sign s ∷ rest
-  pub goes : run rest (at k n) ≡ Ok w
-
-pub sign_sound : (s : Sign) (ts : List Lexeme) (k : List Awaited) (n : ℕ) (w : WrittenPolicy) → run ts (at (this_sign s ∷ k) n) ≡ Ok w → SignRead s ts k n w
-sign_sound s [] k n w e = cc
-sign_sound s (sign t ∷ ts) k n w e =
-    let r = next_ok (sign_number s == sign_number t) (at k n) (suc (length ts)) (λ u. run ts u) w e in
-    record { rest = ts; spelled = ap (λ x. sign x ∷ ts) (sym (same_sign s t r.0)); goes = r.1 }
-sign_sound s (_ ∷ ts) k n w e = cc
 
 -- The field that two names give has these names.
 
@@ -272,15 +231,15 @@ test_sound : (a : List ℕ) (p : ℕ) (ts : List Lexeme) (k : List Awaited) (lef
 test_sound a p ts k zero w h e = cc
 test_sound a p ts k (suc n) w h e =
     let r = next_ok (is_first a) (at (this_sign signs.Dot ∷ second a ∷ k) n) (suc (length ts)) (λ u. run ts u) w e in
-    let dot = sign_sound signs.Dot ts (second a ∷ k) n w r.1 in
+    let dot = took_sign signs.Dot ts (second a ∷ k) n w r.1 in
     let names = second_sound a dot.rest k n w dot.goes in
-    let equals = sign_sound signs.Equals names.rest (value_of names.field ∷ k) n w names.goes in
+    let equals = took_sign signs.Equals names.rest (value_of names.field ∷ k) n w names.goes in
     let v = value_sound names.field equals.rest k n w equals.goes in
     record {
       tree = test names.field p names.place v.value v.made v.takes;
       rest = v.rest;
       spare = n;
-      spelled = test_spelled a p names.field names.place ts dot.rest names.rest names.first dot.spelled names.spelled (equals.spelled ∙ ap (λ xs. sign signs.Equals ∷ xs) v.spelled);
+      spelled = test_spelled a p names.field names.place ts dot.rest names.rest names.first dot.is names.spelled (equals.is ∙ ap (λ xs. sign signs.Equals ∷ xs) v.spelled);
       tests = omega arith;
       deep = omega arith;
       goes = v.goes;

@@ -294,13 +294,13 @@ took_default : (laws : PhraseLaws) (ts : List Lexeme) (h : Head) (w : WrittenPol
 took_default laws ts h w e =
     let arrow = took_sign signs.Arrow ts (rep ∷ reps [] ∷ alts [] ∷ default_path h ∷ []) 2048 w e in
     let p = laws.path_sound arrow.rest (default_path h ∷ []) 2048 w (omega arith) arrow.goes in
-    let end = took_end p.rest h (path_value p.phrase) p.spare w p.goes in
+    let end = took_end p.rest h (path_value p.tree) p.spare w p.goes in
     record {
-      path = p.phrase;
+      path = p.tree;
       closed = end.closed;
       rest = end.rest;
-      is = joined p.phrase ts arrow.rest p.rest (spell_end end.closed ++ end.rest) arrow.is p.is end.is;
-      within = record { depth = omega (arith, p.depth); names = omega (arith, p.names) };
+      is = joined p.tree ts arrow.rest p.rest (spell_end end.closed ++ end.rest) arrow.is p.spelled end.is;
+      within = record { depth = omega (arith, p.deep); names = omega (arith, p.names) };
       goes = end.goes;
     }
   where

@@ -22,26 +22,26 @@ ends_path (sign signs.Star ∷ _) = false
 ends_path (sign signs.Bar ∷ _) = false
 ends_path (t ∷ _) = if begins_rep t then false else true
 
-pub record PredTaken (ts : List Lexeme) (k : List Awaited) (left : ℕ) (w : WrittenPolicy) : Type 0 where
-  pub phrase : Disj
+pub record PredRead (ts : List Lexeme) (k : List Awaited) (left : ℕ) (w : WrittenPolicy) : Type 0 where
+  pub tree : Disj
   pub rest : List Lexeme
   pub spare : ℕ
-  pub is : ts ≡ spell_pred phrase ++ rest
-  pub tests : pred_tests phrase + spare ≡ left
-  pub depth : opens k + pred_depth phrase ≤ 128
-  pub goes : run rest (at (whole_pred (pred_value phrase) ∷ k) spare) ≡ Ok w
+  pub spelled : ts ≡ spell_pred tree ++ rest
+  pub tests : pred_tests tree + spare ≡ left
+  pub deep : opens k + pred_depth tree ≤ 128
+  pub goes : run rest (at (whole_pred (pred_value tree) ∷ k) spare) ≡ Ok w
 
-pub record PathTaken (ts : List Lexeme) (k : List Awaited) (left : ℕ) (w : WrittenPolicy) : Type 0 where
-  pub phrase : Alts
+pub record PathRead (ts : List Lexeme) (k : List Awaited) (left : ℕ) (w : WrittenPolicy) : Type 0 where
+  pub tree : Alts
   pub rest : List Lexeme
   pub spare : ℕ
-  pub is : ts ≡ spell_path phrase ++ rest
-  pub names : path_names phrase + spare ≡ left
-  pub depth : opens k + path_depth phrase ≤ 128
-  pub goes : run rest (at (whole_path (path_value phrase) ∷ k) spare) ≡ Ok w
+  pub spelled : ts ≡ spell_path tree ++ rest
+  pub names : path_names tree + spare ≡ left
+  pub deep : opens k + path_depth tree ≤ 128
+  pub goes : run rest (at (whole_path (path_value tree) ∷ k) spare) ≡ Ok w
 
 pub record PhraseLaws : Type 0 where
   pub pred_complete : (d : Disj) (k : List Awaited) (y : List Lexeme) (n : ℕ) → opens k + pred_depth d ≤ 128 → ends_pred y ≡ true → run (spell_pred d ++ y) (at (literal ∷ lits [] ∷ conjs [] ∷ k) (pred_tests d + n)) ≡ run y (at (whole_pred (pred_value d) ∷ k) n)
   pub path_complete : (a : Alts) (k : List Awaited) (y : List Lexeme) (n : ℕ) → opens k + path_depth a ≤ 128 → ends_path y ≡ true → run (spell_path a ++ y) (at (rep ∷ reps [] ∷ alts [] ∷ k) (path_names a + n)) ≡ run y (at (whole_path (path_value a) ∷ k) n)
-  pub pred_sound : (ts : List Lexeme) (k : List Awaited) (left : ℕ) (w : WrittenPolicy) → opens k ≤ 128 → run ts (at (literal ∷ lits [] ∷ conjs [] ∷ k) left) ≡ Ok w → PredTaken ts k left w
-  pub path_sound : (ts : List Lexeme) (k : List Awaited) (left : ℕ) (w : WrittenPolicy) → opens k ≤ 128 → run ts (at (rep ∷ reps [] ∷ alts [] ∷ k) left) ≡ Ok w → PathTaken ts k left w
+  pub pred_sound : (ts : List Lexeme) (k : List Awaited) (left : ℕ) (w : WrittenPolicy) → opens k ≤ 128 → run ts (at (literal ∷ lits [] ∷ conjs [] ∷ k) left) ≡ Ok w → PredRead ts k left w
+  pub path_sound : (ts : List Lexeme) (k : List Awaited) (left : ℕ) (w : WrittenPolicy) → opens k ≤ 128 → run ts (at (rep ∷ reps [] ∷ alts [] ∷ k) left) ≡ Ok w → PathRead ts k left w

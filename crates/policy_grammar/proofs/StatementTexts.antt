@@ -204,17 +204,17 @@ pub took_body : (laws : PhraseLaws) (ts : List Lexeme) (h : Heading) (w : Writte
 took_body laws ts h w e =
     let colon = took_sign signs.Colon ts (literal ∷ lits [] ∷ conjs [] ∷ statement_pred h ∷ []) 4096 w e in
     let p = laws.pred_sound colon.rest (statement_pred h ∷ []) 4096 w (omega arith) colon.goes in
-    let arrow = took_arrow p.rest (pred_value p.phrase) h p.spare w p.goes in
-    let q = laws.path_sound arrow.rest (statement_path h (pred_value p.phrase) ∷ []) 2048 w (omega arith) arrow.goes in
-    let end = took_end q.rest h (pred_value p.phrase) (path_value q.phrase) q.spare w q.goes in
+    let arrow = took_arrow p.rest (pred_value p.tree) h p.spare w p.goes in
+    let q = laws.path_sound arrow.rest (statement_path h (pred_value p.tree) ∷ []) 2048 w (omega arith) arrow.goes in
+    let end = took_end q.rest h (pred_value p.tree) (path_value q.tree) q.spare w q.goes in
     record {
-      pred = p.phrase;
-      path = q.phrase;
+      pred = p.tree;
+      path = q.tree;
       limits = end.limits;
       closes = end.closes;
       rest = end.rest;
-      is = body_joined p.phrase q.phrase end.limits ts colon.rest p.rest arrow.rest q.rest (sign (end_sign end.closes) ∷ end.rest) colon.is p.is arrow.is q.is end.is;
-      pred_within = record { depth = omega (arith, p.depth); tests = omega (arith, p.tests) };
-      path_within = record { depth = omega (arith, q.depth); names = omega (arith, q.names) };
+      is = body_joined p.tree q.tree end.limits ts colon.rest p.rest arrow.rest q.rest (sign (end_sign end.closes) ∷ end.rest) colon.is p.spelled arrow.is q.spelled end.is;
+      pred_within = record { depth = omega (arith, p.deep); tests = omega (arith, p.tests) };
+      path_within = record { depth = omega (arith, q.deep); names = omega (arith, q.names) };
       goes = end.goes;
     }

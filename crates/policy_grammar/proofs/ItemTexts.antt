@@ -13,7 +13,7 @@ use Rattle.policy_grammar.specs.PathTexts.{Alts, spell_path, path_value, path_na
 use Rattle.policy_grammar.specs.Grammar.{NamePhrase, spell_name, StatementPhrase, spell_statement, ItemPhrase, one, each, spell_item, ListPhrase, ended, open_end, with_default, semicolons, spell_end, spell_list, item_value, items_of, default_of, default_value, IsItemWithin, IsListWithin}
 use Rattle.policy_grammar.specs.Machine.{Head, this_sign, this_word, any_name, literal, lits, conjs, rep, reps, alts, whole_path, sets, item, outer_set, inner_set, each_id, statement_pred, default_path, formula, heading_of, with_item, listed, run, at}
 use Rattle.policy_grammar.proofs.SingleTexts.{took_sign, took_word, NameTaken, took_name}
-use Rattle.policy_grammar.proofs.PhraseLaws.{PhraseLaws}
+use Rattle.policy_grammar.proofs.PathPhrases.{path_complete, path_sound}
 use Rattle.policy_grammar.proofs.StatementTexts.{end_sign, after_item, statement_body, reads_body, BodyTaken, took_body}
 
 -- the head with these items after its own
@@ -35,31 +35,31 @@ list_value h l = listed (with_items h (map item_value (items_of l))) (default_va
 statement_spelled : (s : StatementPhrase) (y : List Lexeme) → spell_statement s ++ y ≡ spell_name s.id ∷ statement_body s.pred s.path s.limits y
 statement_spelled s y = simp append_assoc
 
-reads_item : (laws : PhraseLaws) (i : ItemPhrase) (h : Head) (b : Bool) (y : List Lexeme) → IsItemWithin i → run (spell_item i ++ sign (end_sign b) ∷ y) (at (item h ∷ []) 0) ≡ run y (after_item b (with_item h (item_value i)))
-reads_item laws (one s) h b y within =
+reads_item : (i : ItemPhrase) (h : Head) (b : Bool) (y : List Lexeme) → IsItemWithin i → run (spell_item i ++ sign (end_sign b) ∷ y) (at (item h ∷ []) 0) ≡ run y (after_item b (with_item h (item_value i)))
+reads_item (one s) h b y within =
     ap (λ ts. run ts (at (item h ∷ []) 0)) (statement_spelled s (sign (end_sign b) ∷ y))
-    ∙ reads_body laws s (heading_of h None s.id.text) b y within
-reads_item laws (each first second outer inner s) h b y within =
+    ∙ reads_body s (heading_of h None s.id.text) b y within
+reads_item (each first second outer inner s) h b y within =
     ap (λ ts. run ts (at (each_id h outer.text inner.text ∷ []) 0)) (statement_spelled s (sign (end_sign b) ∷ y))
-    ∙ reads_body laws s (heading_of h (Some (outer.text, inner.text)) s.id.text) b y within
+    ∙ reads_body s (heading_of h (Some (outer.text, inner.text)) s.id.text) b y within
 
-reads_items : (laws : PhraseLaws) (items : List ItemPhrase) (h : Head) (y : List Lexeme) → AllByRecursion IsItemWithin items → run (semicolons items ++ y) (at (item h ∷ []) 0) ≡ run y (at (item (with_items h (map item_value items)) ∷ []) 0)
-reads_items laws [] h y within = ap (λ g. run y (at (item g ∷ []) 0)) (sym (with_none h))
-reads_items laws (i ∷ items) h y within =
+reads_items : (items : List ItemPhrase) (h : Head) (y : List Lexeme) → AllByRecursion IsItemWithin items → run (semicolons items ++ y) (at (item h ∷ []) 0) ≡ run y (at (item (with_items h (map item_value items)) ∷ []) 0)
+reads_items [] h y within = ap (λ g. run y (at (item g ∷ []) 0)) (sym (with_none h))
+reads_items (i ∷ items) h y within =
     ap (λ ts. run ts (at (item h ∷ []) 0)) (append_assoc (spell_item i) (sign signs.Semicolon ∷ semicolons items) y)
-    ∙ reads_item laws i h true (semicolons items ++ y) within.0
-    ∙ reads_items laws items (with_item h (item_value i)) y within.1
+    ∙ reads_item i h true (semicolons items ++ y) within.0
+    ∙ reads_items items (with_item h (item_value i)) y within.1
     ∙ ap (λ g. run y (at (item g ∷ []) 0)) (with_more h (item_value i) (map item_value items))
 
-reads_default : (laws : PhraseLaws) (a : Alts) (h : Head) (b : Bool) (y : List Lexeme) → IsPathWithin a → run (word words.Default ∷ sign signs.Arrow ∷ (spell_path a ++ (spell_end b ++ y))) (at (item h ∷ []) 0) ≡ run y (at (formula (listed h (Some (path_value a))) ∷ []) 0)
-reads_default laws a h b y within =
+reads_default : (a : Alts) (h : Head) (b : Bool) (y : List Lexeme) → IsPathWithin a → run (word words.Default ∷ sign signs.Arrow ∷ (spell_path a ++ (spell_end b ++ y))) (at (item h ∷ []) 0) ≡ run y (at (formula (listed h (Some (path_value a))) ∷ []) 0)
+reads_default a h b y within =
     let names : 2048 ≡ path_names a + (2048 - path_names a) = omega (arith, within.names) in
     ap (λ m. run (spell_path a ++ (spell_end b ++ y)) (at (rep ∷ reps [] ∷ alts [] ∷ default_path h ∷ []) m)) names
     ∙ by b (2048 - path_names a)
   where
     by : (c : Bool) (n : ℕ) → run (spell_path a ++ (spell_end c ++ y)) (at (rep ∷ reps [] ∷ alts [] ∷ default_path h ∷ []) (path_names a + n)) ≡ run y (at (formula (listed h (Some (path_value a))) ∷ []) 0)
-    by true n = laws.path_complete a (default_path h ∷ []) (sign signs.Semicolon ∷ sign signs.CloseList ∷ y) n (omega (arith, within.depth)) refl
-    by false n = laws.path_complete a (default_path h ∷ []) (sign signs.CloseList ∷ y) n (omega (arith, within.depth)) refl
+    by true n = path_complete a (sign signs.Semicolon ∷ sign signs.CloseList ∷ y) (default_path h ∷ []) n refl (omega (arith, within.depth))
+    by false n = path_complete a (sign signs.CloseList ∷ y) (default_path h ∷ []) n refl (omega (arith, within.depth))
 
 all_front : (items : List ItemPhrase) (i : ItemPhrase) → AllByRecursion IsItemWithin (items ++ i ∷ []) → AllByRecursion IsItemWithin items × IsItemWithin i
 all_front [] i a = (tt, a.0)
@@ -71,23 +71,23 @@ open_spelled a b y = simp append_assoc
 default_spelled : (a b c y : List Lexeme) → ((a ++ word words.Default ∷ sign signs.Arrow ∷ b) ++ c) ++ y ≡ a ++ (word words.Default ∷ sign signs.Arrow ∷ (b ++ (c ++ y)))
 default_spelled a b c y = simp append_assoc
 
-pub reads_list : (laws : PhraseLaws) (l : ListPhrase) (ss : List WrittenSet) (y : List Lexeme) → IsListWithin l → run (spell_list l ++ y) (at (sets ss ∷ []) 0) ≡ run y (at (formula (list_value (record { sets = ss; items = [] }) l) ∷ []) 0)
-reads_list laws (ended items) ss y within =
+pub reads_list : (l : ListPhrase) (ss : List WrittenSet) (y : List Lexeme) → IsListWithin l → run (spell_list l ++ y) (at (sets ss ∷ []) 0) ≡ run y (at (formula (list_value (record { sets = ss; items = [] }) l) ∷ []) 0)
+reads_list (ended items) ss y within =
     let h : Head = record { sets = ss; items = [] } in
     ap (λ ts. run ts (at (item h ∷ []) 0)) (append_assoc (semicolons items) (sign signs.CloseList ∷ []) y)
-    ∙ reads_items laws items h (sign signs.CloseList ∷ y) within.items
-reads_list laws (open_end items i) ss y within =
+    ∙ reads_items items h (sign signs.CloseList ∷ y) within.items
+reads_list (open_end items i) ss y within =
     let h : Head = record { sets = ss; items = [] } in
     let parts = all_front items i within.items in
     ap (λ ts. run ts (at (item h ∷ []) 0)) (open_spelled (semicolons items) (spell_item i) y)
-    ∙ reads_items laws items h (spell_item i ++ sign signs.CloseList ∷ y) parts.0
-    ∙ reads_item laws i (with_items h (map item_value items)) false y parts.1
+    ∙ reads_items items h (spell_item i ++ sign signs.CloseList ∷ y) parts.0
+    ∙ reads_item i (with_items h (map item_value items)) false y parts.1
     ∙ ap (λ xs. run y (at (formula (record { sets = ss; items = xs; default_path = None; terms = [] }) ∷ []) 0)) (sym (map_push item_value items i))
-reads_list laws (with_default items a b) ss y within =
+reads_list (with_default items a b) ss y within =
     let h : Head = record { sets = ss; items = [] } in
     ap (λ ts. run ts (at (item h ∷ []) 0)) (default_spelled (semicolons items) (spell_path a) (spell_end b) y)
-    ∙ reads_items laws items h (word words.Default ∷ sign signs.Arrow ∷ (spell_path a ++ (spell_end b ++ y))) within.items
-    ∙ reads_default laws a (with_items h (map item_value items)) b y (within.default a refl)
+    ∙ reads_items items h (word words.Default ∷ sign signs.Arrow ∷ (spell_path a ++ (spell_end b ++ y))) within.items
+    ∙ reads_default a (with_items h (map item_value items)) b y (within.default a refl)
 
 -- What is read is written.
 
@@ -199,11 +199,11 @@ took_each ts h w n p b =
       goes = b.goes;
     }
 
-took_foreach : (laws : PhraseLaws) (ts : List Lexeme) (h : Head) (w : WrittenPolicy) → run (word words.Foreach ∷ ts) (at (item h ∷ []) 0) ≡ Ok w → ItemTaken (word words.Foreach ∷ ts) h w
-took_foreach laws ts h w e =
+took_foreach : (ts : List Lexeme) (h : Head) (w : WrittenPolicy) → run (word words.Foreach ∷ ts) (at (item h ∷ []) 0) ≡ Ok w → ItemTaken (word words.Foreach ∷ ts) h w
+took_foreach ts h w e =
     let n = took_names ts h w e in
     let p = took_pair n.rest h w n.goes in
-    took_each ts h w n p (took_body laws p.rest (heading_of h (Some (p.outer.text, p.inner.text)) p.id.text) w p.goes)
+    took_each ts h w n p (took_body p.rest (heading_of h (Some (p.outer.text, p.inner.text)) p.id.text) w p.goes)
 
 -- the list after its bracket
 abbrev pub spell_inside : ListPhrase → List Lexeme
@@ -290,10 +290,10 @@ took_end (sign signs.Semicolon ∷ ts) h p n w e =
     record { closed = true; rest = close.rest; is = ap (λ xs. sign signs.Semicolon ∷ xs) close.is; goes = close.goes }
 took_end (_ ∷ ts) h p n w e = cc
 
-took_default : (laws : PhraseLaws) (ts : List Lexeme) (h : Head) (w : WrittenPolicy) → run ts (at (this_sign signs.Arrow ∷ rep ∷ reps [] ∷ alts [] ∷ default_path h ∷ []) 2048) ≡ Ok w → DefaultTaken ts h w
-took_default laws ts h w e =
+took_default : (ts : List Lexeme) (h : Head) (w : WrittenPolicy) → run ts (at (this_sign signs.Arrow ∷ rep ∷ reps [] ∷ alts [] ∷ default_path h ∷ []) 2048) ≡ Ok w → DefaultTaken ts h w
+took_default ts h w e =
     let arrow = took_sign signs.Arrow ts (rep ∷ reps [] ∷ alts [] ∷ default_path h ∷ []) 2048 w e in
-    let p = laws.path_sound arrow.rest (default_path h ∷ []) 2048 w (omega arith) arrow.goes in
+    let p = path_sound arrow.rest (default_path h ∷ []) 2048 w (omega arith) arrow.goes in
     let end = took_end p.rest h (path_value p.tree) p.spare w p.goes in
     record {
       path = p.tree;
@@ -335,16 +335,16 @@ item_taken ts h w i more = by i.closes i.is i.goes
 shorter : (ts : List Lexeme) (h : Head) (w : WrittenPolicy) (i : ItemTaken ts h w) → suc (length i.rest) ≤ length ts
 shorter ts h w i = omega (arith, ap length i.is, length-append (spell_item i.phrase) (sign (end_sign i.closes) ∷ i.rest))
 
-pub took_list : (laws : PhraseLaws) (bound : ℕ) (ts : List Lexeme) (h : Head) (w : WrittenPolicy) → length ts ≤ bound → run ts (at (item h ∷ []) 0) ≡ Ok w → ListTaken ts h w
-took_list laws bound [] h w l e = cc
-took_list laws zero (t ∷ ts) h w l e = absurd (omega arith)
-took_list laws (suc bound) (name a p ∷ ts) h w l e =
+pub took_list : (bound : ℕ) (ts : List Lexeme) (h : Head) (w : WrittenPolicy) → length ts ≤ bound → run ts (at (item h ∷ []) 0) ≡ Ok w → ListTaken ts h w
+took_list bound [] h w l e = cc
+took_list zero (t ∷ ts) h w l e = absurd (omega arith)
+took_list (suc bound) (name a p ∷ ts) h w l e =
     let id : NamePhrase = record { text = a; place = p } in
-    let i = took_one id ts h w (took_body laws ts (heading_of h None a) w e) in
-    item_taken (name a p ∷ ts) h w i (λ goes. took_list laws bound i.rest (with_item h (item_value i.phrase)) w (omega (arith, shorter (name a p ∷ ts) h w i)) goes)
-took_list laws (suc bound) (word words.Foreach ∷ ts) h w l e =
-    let i = took_foreach laws ts h w e in
-    item_taken (word words.Foreach ∷ ts) h w i (λ goes. took_list laws bound i.rest (with_item h (item_value i.phrase)) w (omega (arith, shorter (word words.Foreach ∷ ts) h w i)) goes)
-took_list laws (suc bound) (word words.Default ∷ ts) h w l e = default_taken ts h w (took_default laws ts h w e)
-took_list laws (suc bound) (sign signs.CloseList ∷ ts) h w l e = ended_taken ts h w e
-took_list laws (suc bound) (_ ∷ ts) h w l e = cc
+    let i = took_one id ts h w (took_body ts (heading_of h None a) w e) in
+    item_taken (name a p ∷ ts) h w i (λ goes. took_list bound i.rest (with_item h (item_value i.phrase)) w (omega (arith, shorter (name a p ∷ ts) h w i)) goes)
+took_list (suc bound) (word words.Foreach ∷ ts) h w l e =
+    let i = took_foreach ts h w e in
+    item_taken (word words.Foreach ∷ ts) h w i (λ goes. took_list bound i.rest (with_item h (item_value i.phrase)) w (omega (arith, shorter (word words.Foreach ∷ ts) h w i)) goes)
+took_list (suc bound) (word words.Default ∷ ts) h w l e = default_taken ts h w (took_default ts h w e)
+took_list (suc bound) (sign signs.CloseList ∷ ts) h w l e = ended_taken ts h w e
+took_list (suc bound) (_ ∷ ts) h w l e = cc

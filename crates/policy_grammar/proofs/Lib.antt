@@ -3,7 +3,6 @@ pub mod PredicateTexts
 pub mod PathPhrases
 pub mod SetTexts
 pub mod TermTexts
-pub mod PhraseLaws
 pub mod StatementTexts
 pub mod ItemTexts
 pub mod PolicyTexts

@@ -15,7 +15,8 @@ use Rattle.policy_grammar.specs.PathTexts.{Alts, spell_path, path_value, path_na
 use Rattle.policy_grammar.specs.Grammar.{bound_word, spell_limit, spell_limits, StatementPhrase, IsStatementWithin}
 use Rattle.policy_grammar.specs.Machine.{Head, Heading, Opened, this_sign, literal, lits, conjs, whole_pred, rep, reps, alts, whole_path, item, statement_pred, statement_path, limit, limit_rate, limit_rest, formula, closed, listed, State, run, at}
 use Rattle.policy_grammar.proofs.SingleTexts.{Taken, took_sign, RateTaken, preceded, separated-preceded}
-use Rattle.policy_grammar.proofs.PhraseLaws.{PhraseLaws, ends_path}
+use Rattle.policy_grammar.proofs.PredicateTexts.{pred_complete, pred_sound}
+use Rattle.policy_grammar.proofs.PathPhrases.{ends_path, path_complete, path_sound}
 
 -- an item ends with `;`, or with the list
 abbrev pub end_sign : Bool → Sign
@@ -77,16 +78,16 @@ path_ends (l ∷ limits) b y = refl
 abbrev pub statement_body : Disj → Alts → List Limit → List Lexeme → List Lexeme
 statement_body d a limits y = sign signs.Colon ∷ (spell_pred d ++ sign signs.Arrow ∷ (spell_path a ++ (spell_limits limits ++ y)))
 
-pub reads_body : (laws : PhraseLaws) (s : StatementPhrase) (h : Heading) (b : Bool) (y : List Lexeme) → IsStatementWithin s → run (statement_body s.pred s.path s.limits (sign (end_sign b) ∷ y)) (at (this_sign signs.Colon ∷ literal ∷ lits [] ∷ conjs [] ∷ statement_pred h ∷ []) 4096) ≡ run y (after_item b (closed (opened_with h (pred_value s.pred) (path_value s.path) s.limits)))
-reads_body laws s h b y within =
+pub reads_body : (s : StatementPhrase) (h : Heading) (b : Bool) (y : List Lexeme) → IsStatementWithin s → run (statement_body s.pred s.path s.limits (sign (end_sign b) ∷ y)) (at (this_sign signs.Colon ∷ literal ∷ lits [] ∷ conjs [] ∷ statement_pred h ∷ []) 4096) ≡ run y (after_item b (closed (opened_with h (pred_value s.pred) (path_value s.path) s.limits)))
+reads_body s h b y within =
     let after_path : List Lexeme = spell_limits s.limits ++ sign (end_sign b) ∷ y in
     let after_pred : List Lexeme = sign signs.Arrow ∷ (spell_path s.path ++ after_path) in
     let tests : 4096 ≡ pred_tests s.pred + (4096 - pred_tests s.pred) = omega (arith, within.pred.tests) in
     let names : 2048 ≡ path_names s.path + (2048 - path_names s.path) = omega (arith, within.path.names) in
     ap (λ m. run (spell_pred s.pred ++ after_pred) (at (literal ∷ lits [] ∷ conjs [] ∷ statement_pred h ∷ []) m)) tests
-    ∙ laws.pred_complete s.pred (statement_pred h ∷ []) after_pred (4096 - pred_tests s.pred) (omega (arith, within.pred.depth)) refl
+    ∙ pred_complete s.pred after_pred (statement_pred h ∷ []) (4096 - pred_tests s.pred) refl (omega (arith, within.pred.depth))
     ∙ ap (λ m. run (spell_path s.path ++ after_path) (at (rep ∷ reps [] ∷ alts [] ∷ statement_path h (pred_value s.pred) ∷ []) m)) names
-    ∙ laws.path_complete s.path (statement_path h (pred_value s.pred) ∷ []) after_path (2048 - path_names s.path) (omega (arith, within.path.depth)) (path_ends s.limits b y)
+    ∙ path_complete s.path after_path (statement_path h (pred_value s.pred) ∷ []) (2048 - path_names s.path) (path_ends s.limits b y) (omega (arith, within.path.depth))
     ∙ reads_end s.limits h (pred_value s.pred) (path_value s.path) (2048 - path_names s.path) b y
 
 -- What is read is written.
@@ -200,12 +201,12 @@ body_joined : (d : Disj) (p : Alts) (limits : List Limit) (ts a b c e y : List L
 body_joined d p limits ts a b c e y q r s t u =
     q ∙ ap (λ xs. sign signs.Colon ∷ xs) (r ∙ ap (λ xs. spell_pred d ++ xs) (s ∙ ap (λ xs. sign signs.Arrow ∷ xs) (t ∙ ap (λ xs. spell_path p ++ xs) u)))
 
-pub took_body : (laws : PhraseLaws) (ts : List Lexeme) (h : Heading) (w : WrittenPolicy) → run ts (at (this_sign signs.Colon ∷ literal ∷ lits [] ∷ conjs [] ∷ statement_pred h ∷ []) 4096) ≡ Ok w → BodyTaken ts h w
-took_body laws ts h w e =
+pub took_body : (ts : List Lexeme) (h : Heading) (w : WrittenPolicy) → run ts (at (this_sign signs.Colon ∷ literal ∷ lits [] ∷ conjs [] ∷ statement_pred h ∷ []) 4096) ≡ Ok w → BodyTaken ts h w
+took_body ts h w e =
     let colon = took_sign signs.Colon ts (literal ∷ lits [] ∷ conjs [] ∷ statement_pred h ∷ []) 4096 w e in
-    let p = laws.pred_sound colon.rest (statement_pred h ∷ []) 4096 w (omega arith) colon.goes in
+    let p = pred_sound colon.rest (statement_pred h ∷ []) 4096 w (omega arith) colon.goes in
     let arrow = took_arrow p.rest (pred_value p.tree) h p.spare w p.goes in
-    let q = laws.path_sound arrow.rest (statement_path h (pred_value p.tree) ∷ []) 2048 w (omega arith) arrow.goes in
+    let q = path_sound arrow.rest (statement_path h (pred_value p.tree) ∷ []) 2048 w (omega arith) arrow.goes in
     let end = took_end q.rest h (pred_value p.tree) (path_value q.tree) q.spare w q.goes in
     record {
       pred = p.tree;

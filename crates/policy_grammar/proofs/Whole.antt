@@ -1,28 +1,11 @@
--- The run of all lexemes is the grammar.
+-- The run of all lexemes is the grammar, so each text is a policy or has a fault.
 use Rattle.std.proofs.Common.{ℕ, ◌≡◌, ◌-◌, ◌≤◌, ◌⊎◌, inl, inr, List, Result, Ok, Err, length, refl, sym, ◌∙◌}
 use Rattle.policy_grammar.specs.declared.written.WrittenPolicy.{WrittenPolicy}
 use Rattle.policy_grammar.specs.Lexemes.{Lexeme}
 use Rattle.policy_grammar.specs.Grammar.{StandsFor, IsFaultAt}
 use Rattle.policy_grammar.specs.Machine.{run, start}
-use Rattle.policy_grammar.proofs.PredicateTexts.{pred_complete, pred_sound}
-use Rattle.policy_grammar.proofs.PathPhrases.{path_complete, path_sound}
-use Rattle.policy_grammar.proofs.PhraseLaws.{PhraseLaws}
-use Rattle.policy_grammar.proofs.PolicyTexts as texts
+use Rattle.policy_grammar.proofs.PolicyTexts.{complete, sound}
 use Rattle.policy_grammar.proofs.Faults as faults
-
-phrase_laws : PhraseLaws
-phrase_laws = record {
-  pred_complete = λ d k y n deep ends. pred_complete d y k n ends deep;
-  path_complete = λ a k y n deep ends. path_complete a y k n ends deep;
-  pred_sound = λ ts k left w deep e. let p = pred_sound ts k left w deep e in record { phrase = p.tree; rest = p.rest; spare = p.spare; is = p.spelled; tests = p.tests; depth = p.deep; goes = p.goes };
-  path_sound = λ ts k left w deep e. let p = path_sound ts k left w deep e in record { phrase = p.tree; rest = p.rest; spare = p.spare; is = p.spelled; names = p.names; depth = p.deep; goes = p.goes };
-}
-
-pub complete : (ls : List Lexeme) (w : WrittenPolicy) → StandsFor ls w → run ls start ≡ Ok w
-complete ls w s = texts.complete phrase_laws ls w s
-
-pub sound : (ls : List Lexeme) (w : WrittenPolicy) → run ls start ≡ Ok w → StandsFor ls w
-sound ls w e = texts.sound phrase_laws ls w e
 
 pub fault : (ls : List Lexeme) (n : ℕ) → run ls start ≡ Err n → (n ≤ length ls) × IsFaultAt ls (length ls - n)
 fault ls n e = faults.fault complete sound ls n e

@@ -1,5 +1,5 @@
--- What a run that stops says of the grammar, where the run of all lexemes is known to be the grammar.
-use Rattle.std.proofs.Common.{ℕ, ◌≡◌, ◌+◌, ◌-◌, ◌<◌, ◌≤◌, suc, zero, List, [], ◌∷◌, ◌++◌, ⊎_elim, drop, append-nil, length-take, Option, Some, None, Result, Ok, Err, ok_or, length, take, refl, sym, ap, ◌∙◌, subst, append_assoc, length-append, add-one, arith}
+-- A run that stops, stops where no policy goes on; so each text is one policy or has one fault.
+use Rattle.std.proofs.Common.{ℕ, ◌≡◌, ◌+◌, ◌-◌, ◌<◌, ◌≤◌, suc, zero, List, [], ◌∷◌, ◌++◌, ⊎_elim, ◌⊎◌, inl, inr, drop, append-nil, length-take, Option, Some, None, Result, Ok, Err, ok_or, length, take, refl, sym, ap, ◌∙◌, subst, append_assoc, length-append, add-one, arith}
 use Rattle.std.proofs.lemmas.Bool.{cases_lt}
 use Rattle.std.proofs.lemmas.List.{take-append-drop, take-append-le}
 use Rattle.std.proofs.Math.Seq.{take-append_seam, take-append-add}
@@ -7,6 +7,7 @@ use Rattle.policy_grammar.specs.declared.written.WrittenPolicy.{WrittenPolicy}
 use Rattle.policy_grammar.specs.Lexemes.{Lexeme}
 use Rattle.policy_grammar.specs.Grammar.{StandsFor, Begins, IsFaultAt}
 use Rattle.policy_grammar.specs.Machine.{State, feed, next, run, finish, start}
+use Rattle.policy_grammar.proofs.PolicyTexts.{complete, sound}
 use Rattle.policy_grammar.proofs.Closing.{Good, start_good, IsKept, kept, closes}
 
 some_inj : {A : Type 0} {x y : A} → Some x ≡ Some y → x ≡ y
@@ -104,36 +105,48 @@ not_both p q = cc
 pub bounded : (ts : List Lexeme) (s : State) (m : ℕ) → run ts s ≡ Err m → m ≤ length ts
 bounded ts s m e = let a = stopped ts s m e in omega (arith, ap length a.is, length-append a.front a.rest, a.count)
 
-module _ (complete : (ts : List Lexeme) (w : WrittenPolicy) → StandsFor ts w → run ts start ≡ Ok w) (sound : (ts : List Lexeme) (w : WrittenPolicy) → run ts start ≡ Ok w → StandsFor ts w) where
-  -- the lexemes that lead somewhere begin a policy
-  begins : (front : List Lexeme) (u : State) → steps front start ≡ Some u → Begins front
-  begins front u reached =
-      let c = closes u.awaited u.left (steps-good front start u start_good reached) in
-      record { more = c.more; policy = c.policy; stands = sound (front ++ c.more) c.policy (run-steps front c.more start u reached ∙ c.goes) }
+-- the lexemes that lead somewhere begin a policy
+begins : (front : List Lexeme) (u : State) → steps front start ≡ Some u → Begins front
+begins front u reached =
+    let c = closes u.awaited u.left (steps-good front start u start_good reached) in
+    record { more = c.more; policy = c.policy; stands = sound (front ++ c.more) c.policy (run-steps front c.more start u reached ∙ c.goes) }
 
-  -- with a lexeme that nothing goes on with no policy begins
-  no_more : (front rest : List Lexeme) (u : State) → steps front start ≡ Some u → IsStuck rest u → 0 < length rest → Begins (take (suc (length front)) (front ++ rest)) → ⊥
-  no_more front [] u reached stuck some b = absurd (omega arith)
-  no_more front (t ∷ rest) u reached stuck some b =
-      let whole : take (suc (length front)) (front ++ t ∷ rest) ≡ front ++ t ∷ [] = ap (λ n. take n (front ++ t ∷ rest)) (sym (add-one (length front))) ∙ take-append-add front (t ∷ rest) 1 in
-      let text : take (suc (length front)) (front ++ t ∷ rest) ++ b.more ≡ front ++ t ∷ b.more = ap (λ xs. xs ++ b.more) whole ∙ append_assoc front (t ∷ []) b.more in
-      not_both
-      (run-steps front (t ∷ b.more) start u reached ∙ ap (λ o. next o (suc (length b.more)) (λ x. run b.more x)) stuck)
-      (ap (λ xs. run xs start) (sym text) ∙ complete _ b.policy b.stands)
+-- with a lexeme that nothing goes on with no policy begins
+no_more : (front rest : List Lexeme) (u : State) → steps front start ≡ Some u → IsStuck rest u → 0 < length rest → Begins (take (suc (length front)) (front ++ rest)) → ⊥
+no_more front [] u reached stuck some b = absurd (omega arith)
+no_more front (t ∷ rest) u reached stuck some b =
+    let whole : take (suc (length front)) (front ++ t ∷ rest) ≡ front ++ t ∷ [] = ap (λ n. take n (front ++ t ∷ rest)) (sym (add-one (length front))) ∙ take-append-add front (t ∷ rest) 1 in
+    let text : take (suc (length front)) (front ++ t ∷ rest) ++ b.more ≡ front ++ t ∷ b.more = ap (λ xs. xs ++ b.more) whole ∙ append_assoc front (t ∷ []) b.more in
+    not_both
+    (run-steps front (t ∷ b.more) start u reached ∙ ap (λ o. next o (suc (length b.more)) (λ x. run b.more x)) stuck)
+    (ap (λ xs. run xs start) (sym text) ∙ complete _ b.policy b.stands)
 
-  fault_at : (ts : List Lexeme) (m place : ℕ) → run ts start ≡ Err m → place + m ≡ length ts → IsFaultAt ts place
-  fault_at ts m place e c =
-      let a = stopped ts start m e in
-      let size : length ts ≡ length a.front + length a.rest = ap length a.is ∙ length-append a.front a.rest in
-      let here : place ≡ length a.front = omega (arith, size, a.count) in
-      let front : take place ts ≡ a.front = ap (λ n. take n ts) here ∙ ap (λ xs. take (length a.front) xs) a.is ∙ take-append_seam a.front a.rest in
-      record {
-        within = omega arith;
-        before = subst Begins (sym front) (begins a.front a.to a.reached);
-        token = λ h b. no_more a.front a.rest a.to a.reached a.stuck (omega (arith, a.count)) (subst Begins (ap (λ n. take (suc n) ts) here ∙ ap (λ xs. take (suc (length a.front)) xs) a.is) b);
-        end = λ _ w s. not_both e (complete ts w s);
-      }
+fault_at : (ts : List Lexeme) (m place : ℕ) → run ts start ≡ Err m → place + m ≡ length ts → IsFaultAt ts place
+fault_at ts m place e c =
+    let a = stopped ts start m e in
+    let size : length ts ≡ length a.front + length a.rest = ap length a.is ∙ length-append a.front a.rest in
+    let here : place ≡ length a.front = omega (arith, size, a.count) in
+    let front : take place ts ≡ a.front = ap (λ n. take n ts) here ∙ ap (λ xs. take (length a.front) xs) a.is ∙ take-append_seam a.front a.rest in
+    record {
+      within = omega arith;
+      before = subst Begins (sym front) (begins a.front a.to a.reached);
+      token = λ h b. no_more a.front a.rest a.to a.reached a.stuck (omega (arith, a.count)) (subst Begins (ap (λ n. take (suc n) ts) here ∙ ap (λ xs. take (suc (length a.front)) xs) a.is) b);
+      end = λ _ w s. not_both e (complete ts w s);
+    }
 
-  -- the run stops where no policy goes on
-  pub fault : (ts : List Lexeme) (m : ℕ) → run ts start ≡ Err m → (m ≤ length ts) × IsFaultAt ts (length ts - m)
-  fault ts m e = (bounded ts start m e, fault_at ts m (length ts - m) e (omega (arith, bounded ts start m e)))
+-- the run stops where no policy goes on
+pub fault : (ts : List Lexeme) (m : ℕ) → run ts start ≡ Err m → (m ≤ length ts) × IsFaultAt ts (length ts - m)
+fault ts m e = (bounded ts start m e, fault_at ts m (length ts - m) e (omega (arith, bounded ts start m e)))
+
+ok_inj : {A B : Type 0} {x y : A} → (let r : Result A B = Ok x in r) ≡ Ok y → x ≡ y
+ok_inj e = cc
+
+pub one_policy : (ls : List Lexeme) (v w : WrittenPolicy) → StandsFor ls v → StandsFor ls w → v ≡ w
+one_policy ls v w s t = ok_inj (sym (complete ls v s) ∙ complete ls w t)
+
+pub policy_or_fault : (ls : List Lexeme) → ((w : WrittenPolicy) × StandsFor ls w) ⊎ ((n : ℕ) × IsFaultAt ls n)
+policy_or_fault ls = by (run ls start) refl
+  where
+    by : (r : Result WrittenPolicy ℕ) → run ls start ≡ r → ((w : WrittenPolicy) × StandsFor ls w) ⊎ ((n : ℕ) × IsFaultAt ls n)
+    by (Ok w) e = inl (w, sound ls w e)
+    by (Err n) e = inr (length ls - n, (fault ls n e).1)

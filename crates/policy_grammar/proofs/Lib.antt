@@ -8,4 +8,3 @@ pub mod ItemTexts
 pub mod PolicyTexts
 pub mod Closing
 pub mod Faults
-pub mod Whole

@@ -1,6 +1,6 @@
 use Rattle.std.proofs.Common.{refl}
 use Rattle.policy_grammar.proofs.PolicyTexts.{sound}
-use Rattle.policy_grammar.proofs.Whole.{fault}
+use Rattle.policy_grammar.proofs.Faults.{fault}
 use Rattle.policy_grammar.proofs.rows.default_row.Goals as goal
 
 pub returns-clause-value : goal.returns-clause-value

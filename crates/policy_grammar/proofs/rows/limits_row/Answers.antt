@@ -1,5 +1,5 @@
 use Rattle.std.proofs.Common.{refl}
-use Rattle.policy_grammar.proofs.Whole.{fault}
+use Rattle.policy_grammar.proofs.Faults.{fault}
 use Rattle.policy_grammar.proofs.rows.limits_row.Goals as goal
 
 pub returns-clause-proto : goal.returns-clause-proto

@@ -185,7 +185,8 @@ policy_value p = record {
   sets = map set_value p.sets;
   items = map item_value (items_of p.list);
   default_path = default_value (default_of p.list);
-  terms = map term_value p.terms }
+  terms = map term_value p.terms;
+}
 
 -- The limits: 128 open brackets and bangs, 4,096 tests in a predicate, 2,048 names and dots in a path.
 

@@ -1,6 +1,5 @@
 -- Tokens as the grammar has them: a name with its text and the byte at which it starts, all others by their kind.
 use Rattle.std.specs.Prelude.{if◌then◌else◌, ℕ, List, [], ◌∷◌, ◌++◌, map, length, slice_range, nat_le, ◌&&◌}
-use Rattle.merlin_text.specs.declared.token.Kind.{Kind}
 use Rattle.merlin_text.specs.declared.token.Kind.TheVariants as kinds
 use Rattle.merlin_text.specs.declared.token.Word.{Word}
 use Rattle.merlin_text.specs.declared.token.Sign.{Sign}
@@ -21,13 +20,14 @@ text_of bytes t = if nat_le t.span.start t.span.end && nat_le t.span.end (length
 
 abbrev pub lexeme : List ℕ → Token → Lexeme
 lexeme bytes t = elim t.kind [
-    kinds.Name ↦ name (text_of bytes t) t.span.start
+  | kinds.Name ↦ name (text_of bytes t) t.span.start
   | kinds.Word w ↦ word w
   | kinds.Number n ↦ number n
   | kinds.Rate n ↦ rate n
   | kinds.Mac n ↦ mac n
   | kinds.Ip n ↦ ip n
-  | kinds.Sign s ↦ sign s ]
+  | kinds.Sign s ↦ sign s
+]
 
 abbrev pub lexemes : List ℕ → List Token → List Lexeme
 lexemes bytes tokens = map (lexeme bytes) tokens

@@ -1,12 +1,11 @@
 -- Reading a policy one lexeme after another: what is still awaited, and what a lexeme makes of it. No promise speaks of this; it is
 -- the hinge between the grammar and the readers.
-use Rattle.std.specs.Prelude.{if◌then◌else◌, ℕ, ◌≡◌, zero, suc, ◌+◌, Bool, true, false, ◌&&◌, ◌||◌, ◌==◌, codes, bytes_eq, List, [], ◌∷◌, ◌++◌, Option, Some, None, Result, Ok, Err, nat_lt, length, ok_or}
+use Rattle.std.specs.Prelude.{if◌then◌else◌, ℕ, zero, suc, ◌+◌, Bool, true, false, ◌&&◌, ◌||◌, ◌==◌, codes, bytes_eq, List, [], ◌∷◌, ◌++◌, Option, Some, None, Result, Err, nat_lt, length, ok_or}
 use Rattle.merlin_model.specs.declared.policy.Bound.{Bound}
 use Rattle.merlin_model.specs.declared.policy.Bound.TheVariants.{Max, Min}
 use Rattle.merlin_model.specs.declared.policy.Part.{Part}
 use Rattle.merlin_model.specs.declared.policy.Part.TheVariants.{Id, Constant}
 use Rattle.merlin_model.specs.declared.policy.Pred.{Pred, Yes, No, Test as Tests, Not}
-use Rattle.merlin_model.specs.declared.policy.Term.{Term}
 use Rattle.merlin_text.specs.declared.token.Word.{Word}
 use Rattle.merlin_text.specs.declared.token.Word.TheVariants as words
 use Rattle.merlin_text.specs.declared.token.Sign.{Sign}
@@ -22,7 +21,7 @@ use Rattle.policy_grammar.specs.declared.written.WrittenStatement.{WrittenStatem
 use Rattle.policy_grammar.specs.declared.written.Item.{Item}
 use Rattle.policy_grammar.specs.declared.written.Item.TheVariants.{One, ForEach}
 use Rattle.policy_grammar.specs.declared.written.WrittenPolicy.{WrittenPolicy}
-use Rattle.policy_grammar.specs.Lexemes.{Lexeme, name, word, sign, number, rate, mac, ip}
+use Rattle.policy_grammar.specs.Lexemes.{Lexeme, name, word, sign, rate, mac, ip}
 use Rattle.policy_grammar.specs.Predicates.{all_of, any_of, test_of}
 use Rattle.policy_grammar.specs.PathTexts.{cat_of, alt_of}
 
@@ -327,7 +326,7 @@ abbrev pub feed_item : Head → List Awaited → Lexeme → Option State
 feed_item h k (name id _) = statement_from (heading_of h None id) k
 feed_item h k (word words.Foreach) =
     on (this_sign signs.OpenGroup ∷ any_name ∷ this_sign signs.Comma ∷ any_name ∷ this_sign signs.CloseGroup
-        ∷ this_word words.In ∷ this_word words.Cross ∷ this_sign signs.OpenGroup ∷ outer_set h ∷ k) 0
+    ∷ this_word words.In ∷ this_word words.Cross ∷ this_sign signs.OpenGroup ∷ outer_set h ∷ k) 0
 feed_item h k (word words.Default) = on (this_sign signs.Arrow ∷ rep ∷ reps [] ∷ alts [] ∷ default_path h ∷ k) 2048
 feed_item h k (sign signs.CloseList) = on (formula (listed h None) ∷ k) 0
 feed_item _ _ _ = None
@@ -414,7 +413,7 @@ feed_name _ _ _ = None
 -- what a lexeme makes of what is awaited; none where nothing goes on with it
 abbrev pub feed_on : Awaited → List Awaited → ℕ → Lexeme → Option State
 feed_on a k n t = elim a [
-    this_sign s ↦ feed_sign s k n t
+  | this_sign s ↦ feed_sign s k n t
   | this_word w ↦ feed_word w k n t
   | any_name ↦ feed_name k n t
   | literal ↦ feed_literal k n t
@@ -452,7 +451,8 @@ feed_on a k n t = elim a [
   | leading w b ps ↦ feed_leading w b ps k t
   | sum_rest w b ps ↦ feed_sum_rest w b ps k t
   | summand w b ps ↦ feed_summand w b ps k t
-  | term_rate w b ps ↦ feed_term_rate w b ps k t ]
+  | term_rate w b ps ↦ feed_term_rate w b ps k t
+]
 
 abbrev pub feed_all : List Awaited → ℕ → Lexeme → Option State
 feed_all [] n t = None

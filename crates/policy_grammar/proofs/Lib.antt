@@ -1,0 +1,10 @@
+pub mod SingleTexts
+pub mod PredicateTexts
+pub mod PathPhrases
+pub mod SetTexts
+pub mod TermTexts
+pub mod StatementTexts
+pub mod ItemTexts
+pub mod PolicyTexts
+pub mod Closing
+pub mod Faults

@@ -1,0 +1,5 @@
+use Rattle.policy_grammar.proofs.Faults.{one_fault}
+use Rattle.policy_grammar.proofs.laws.one_fault.Goals as goal
+
+pub returns : goal.returns
+returns c = one_fault

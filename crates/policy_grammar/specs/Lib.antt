@@ -1,0 +1,5 @@
+pub mod Lexemes
+pub mod Predicates
+pub mod PathTexts
+pub mod Grammar
+pub mod Machine

@@ -1,0 +1,6 @@
+//! Policies as they are written, and which texts are policies.
+#![tactic(auto)]
+
+pub mod laws;
+pub mod rows;
+pub mod written;

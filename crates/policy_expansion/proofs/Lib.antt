@@ -1,0 +1,9 @@
+pub mod Places
+pub mod Paired
+pub mod Repeated
+pub mod Tabled
+pub mod Numbering
+pub mod Ordered
+pub mod PairPackets
+pub mod Differing
+pub mod Forming

@@ -1,0 +1,9 @@
+pub mod WrittenOut
+pub mod Faults
+pub mod Expansion
+pub mod Seen
+pub mod Tables
+pub mod Adding
+pub mod Packets
+pub mod Rows
+pub mod Kept

@@ -1,0 +1,15 @@
+//! Policies as they are written, turned into the statements and terms that they stand for.
+#![tactic(auto)]
+
+mod expansion;
+mod faults;
+pub mod laws;
+mod literals;
+mod pairs;
+mod path_copy;
+mod policy;
+mod sets;
+mod writing;
+
+pub use expansion::expand;
+pub use policy::{ExpansionFault, Policy, Statement};

@@ -1,0 +1,33 @@
+use Rattle.std.proofs.Common.{◌≡◌, ◌+◌, ◌<◌, ◌*◌, List, [], ◌∷◌, length}
+use Rattle.merlin_model.specs.declared.policy.Pred.{Pred}
+use Rattle.policy_grammar.specs.Lexemes.{lexemes}
+use Rattle.policy_grammar.specs.Machine.{Awaited, literal, lits, conjs, opens, run, at}
+use Rattle.policy_parser.proofs.predicates.+predicate.Given as goal
+
+-- a bracket or a bang takes from the room, and the readers call each other in turn
+abbrev pub decreases-literal : goal.decreases-literal
+decreases-literal l = 3 * l.room
+
+abbrev pub decreases-conjunction : goal.decreases-conjunction
+decreases-conjunction l = 3 * l.room + 1
+
+abbrev pub decreases-predicate : goal.decreases-predicate
+decreases-predicate l = 3 * l.room + 2
+
+abbrev pub invariant-conjunction-loop-rest : goal.invariant-conjunction-loop-rest
+invariant-conjunction-loop-rest l = record {
+  goes : (k : List Awaited) (ps : List Pred) → opens k + l.room ≡ 128 → run (lexemes l.bytes l.fn.tokens) (at (literal ∷ lits [] ∷ conjs ps ∷ k) l.fn.left) ≡ run (lexemes l.bytes l.rest) (at (lits l.parts ∷ conjs ps ∷ k) l.spare);
+  shorter : length l.rest < length l.fn.tokens;
+}
+
+abbrev pub decreases-conjunction-loop-rest : goal.decreases-conjunction-loop-rest
+decreases-conjunction-loop-rest l = length l.rest
+
+abbrev pub invariant-predicate-loop-rest : goal.invariant-predicate-loop-rest
+invariant-predicate-loop-rest l = record {
+  goes : (k : List Awaited) → opens k + l.room ≡ 128 → run (lexemes l.bytes l.fn.tokens) (at (literal ∷ lits [] ∷ conjs [] ∷ k) l.fn.left) ≡ run (lexemes l.bytes l.rest) (at (conjs l.parts ∷ k) l.spare);
+  shorter : length l.rest < length l.fn.tokens;
+}
+
+abbrev pub decreases-predicate-loop-rest : goal.decreases-predicate-loop-rest
+decreases-predicate-loop-rest l = length l.rest

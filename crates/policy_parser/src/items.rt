@@ -1,0 +1,365 @@
+//! The items of the list.
+
+ghost use Rattle.std.specs.Prelude.{◌≡◌, ◌<◌, ℕ, List, [], ◌∷◌, IfOk, Option, None, Some, length};
+ghost use Rattle.merlin_model.specs.declared.policy.Pred.{Pred};
+ghost use Rattle.merlin_text.specs.declared.token.Sign.TheVariants as signs;
+ghost use Rattle.merlin_text.specs.declared.token.Word.TheVariants as words;
+ghost use Rattle.policy_grammar.specs.declared.written.RawPath.{RawPath};
+ghost use Rattle.policy_grammar.specs.declared.written.WrittenSet.{WrittenSet};
+ghost use Rattle.policy_grammar.specs.Lexemes.{lexemes};
+ghost use Rattle.policy_grammar.specs.Machine.{Awaited, Head, Heading, Opened, this_sign, this_word, any_name, rep, reps, alts, whole_path, statement_path, default_path as default_awaited, limit as limit_awaited, limit_rest, with_limit, outer_set, each_id, item, formula, heading_of, listed, closed, with_item, item_from, run, at};
+ghost use Rattle.policy_parser.specs.Goes.{Goes, opened, ended, after_entry, policy_of, statement_awaited};
+
+use crate::fault::ReadError;
+use crate::paths::path_of;
+use crate::predicates::predicate;
+use crate::signs::{any_name_at, bound_at, name_at, rate_at, sign_at, text, word_at};
+use merlin_model::name::{Name, name_from};
+use merlin_model::policy::Pred;
+use merlin_text::{Kind, Sign, Token, Word};
+use policy_grammar::written::{Item, Limit, RawPath, WrittenStatement};
+use sqlite_items::Items;
+use std::alloc::Global;
+
+/// How many brackets and bangs may be open at once.
+const NESTING: usize = 128;
+
+/// How many tests a predicate may have.
+const TESTS: usize = 4_096;
+
+/// How many names and dots a path may have.
+const NAMES: usize = 2_048;
+
+/// What a sign after an item ends.
+#[derive(Clone, Copy)]
+pub enum End {
+    /// The item alone: another may follow.
+    Item,
+    /// The whole list.
+    List,
+}
+
+/// What stands where an item may begin.
+#[derive(Drop)]
+pub enum Entry {
+    /// An item, with what its last sign ends.
+    Item(Item, End),
+    /// The default, which ends the list.
+    Default(RawPath),
+    /// The end of the list.
+    End,
+}
+
+/// A limit, and what follows it.
+fn limit_at(tokens: &[Token]) -> Result<(Limit, &[Token]), ReadError>
+    ensures goes { (bytes : List ℕ) (o : Opened) →
+        Goes result (λ r. run (lexemes bytes r.1.now) (at (limit_rest (with_limit o r.0.bound r.0.rate) ∷ []) 0)) (run (lexemes bytes tokens.now) (at (limit_awaited o ∷ []) 0)) }
+    ensures shorter { IfOk result (λ r. length r.1.now < length tokens.now) }
+{
+    let (bound, rest) = bound_at(tokens)?;
+    let rest = sign_at(Sign::OpenGroup, rest)?;
+    let (rate, rest) = rate_at(rest)?;
+    let rest = sign_at(Sign::CloseGroup, rest)?;
+    Ok((Limit { bound, rate }, rest))
+}
+
+/// The limits after `at`, up to the sign that ends the statement.
+fn limits(alloc: Global, tokens: &[Token]) -> Result<(Items<Limit>, End, &[Token]), ReadError>
+    ensures goes { (bytes : List ℕ) (h : Heading) (pred : Pred) (path : RawPath) →
+        Goes result (λ r. run (lexemes bytes r.2.now) (ended r.1 (closed (opened h pred path r.0)))) (run (lexemes bytes tokens.now) (at (limit_awaited (opened h pred path []) ∷ []) 0)) }
+    ensures shorter { IfOk result (λ r. length r.2.now < length tokens.now) }
+{
+    let mut limits = Items::new(alloc);
+    let mut rest = tokens;
+    'limits: loop {
+        let (limit, others) = limit_at(rest)?;
+        limits.push(limit)?;
+        match others {
+            [
+                Token {
+                    kind: Kind::Word(Word::And),
+                    ..
+                },
+                others @ ..,
+            ] => rest = others,
+            [
+                Token {
+                    kind: Kind::Sign(Sign::Semicolon),
+                    ..
+                },
+                others @ ..,
+            ] => return Ok((limits, End::Item, others)),
+            [
+                Token {
+                    kind: Kind::Sign(Sign::CloseList),
+                    ..
+                },
+                others @ ..,
+            ] => return Ok((limits, End::List, others)),
+            _ => return Err(ReadError::Syntax(others.len())),
+        }
+    }
+}
+
+/// What follows a statement's path: its limits, and the sign that ends it.
+fn statement_end(
+    alloc: Global,
+    tokens: &[Token],
+) -> Result<(Items<Limit>, End, &[Token]), ReadError>
+    ensures goes { (bytes : List ℕ) (h : Heading) (pred : Pred) (path : RawPath) (n : ℕ) →
+        Goes result (λ r. run (lexemes bytes r.2.now) (ended r.1 (closed (opened h pred path r.0)))) (run (lexemes bytes tokens.now) (at (whole_path path ∷ statement_path h pred ∷ []) n)) }
+    ensures shorter { IfOk result (λ r. length r.2.now < length tokens.now) }
+{
+    match tokens {
+        [
+            Token {
+                kind: Kind::Word(Word::At),
+                ..
+            },
+            rest @ ..,
+        ] => limits(alloc, rest),
+        [
+            Token {
+                kind: Kind::Sign(Sign::Semicolon),
+                ..
+            },
+            rest @ ..,
+        ] => Ok((Items::new(alloc), End::Item, rest)),
+        [
+            Token {
+                kind: Kind::Sign(Sign::CloseList),
+                ..
+            },
+            rest @ ..,
+        ] => Ok((Items::new(alloc), End::List, rest)),
+        _ => Err(ReadError::Syntax(tokens.len())),
+    }
+}
+
+/// A predicate and the arrow after it.
+fn pred_part<'a>(
+    alloc: Global,
+    bytes: &[u8],
+    tokens: &'a [Token],
+) -> Result<(Pred, &'a [Token]), ReadError>
+    ensures goes { (h : Heading) →
+        Goes result (λ r. run (lexemes bytes.now r.1.now) (at (rep ∷ reps [] ∷ alts [] ∷ statement_path h r.0 ∷ []) 2048)) (run (lexemes bytes.now tokens.now) (statement_awaited h)) }
+    ensures shorter { IfOk result (λ r. length r.1.now < length tokens.now) }
+{
+    let rest = sign_at(Sign::Colon, tokens)?;
+    let (pred, rest, _left) = predicate(alloc, bytes, rest, NESTING, TESTS)?;
+    match rest {
+        [
+            Token {
+                kind: Kind::Sign(Sign::Arrow),
+                ..
+            },
+            rest @ ..,
+        ] => Ok((pred, rest)),
+        _ => Err(ReadError::Syntax(rest.len())),
+    }
+}
+
+/// A statement whose id is read, with the sign that ends it.
+fn statement<'a>(
+    alloc: Global,
+    id: Name,
+    bytes: &[u8],
+    tokens: &'a [Token],
+) -> Result<(WrittenStatement, End, &'a [Token]), ReadError>
+    ensures goes { (h : Head) (pair : Option (List ℕ × List ℕ)) →
+        Goes result (λ r. run (lexemes bytes.now r.2.now) (ended r.1 (with_item h (item_from pair r.0)))) (run (lexemes bytes.now tokens.now) (statement_awaited (heading_of h pair id))) }
+    ensures shorter { IfOk result (λ r. length r.2.now < length tokens.now) }
+{
+    let (pred, rest) = pred_part(alloc, bytes, tokens)?;
+    let (path, rest, _left) = path_of(alloc, bytes, rest, NESTING, NAMES)?;
+    let (limits, end, rest) = statement_end(alloc, rest)?;
+    Ok((
+        WrittenStatement {
+            id,
+            pred,
+            path,
+            limits,
+        },
+        end,
+        rest,
+    ))
+}
+
+/// A plain statement whose id is read.
+fn plain<'a>(
+    alloc: Global,
+    id: &[u8],
+    bytes: &[u8],
+    tokens: &'a [Token],
+) -> Result<(Entry, &'a [Token]), ReadError>
+    ensures goes { (h : Head) →
+        Goes result (λ r. run (lexemes bytes.now r.1.now) (after_entry r.0 h)) (run (lexemes bytes.now tokens.now) (statement_awaited (heading_of h None id.now))) }
+    ensures shorter { IfOk result (λ r. length r.1.now < length tokens.now) }
+{
+    let id = name_from(alloc, id)?;
+    let (statement, end, rest) = statement(alloc, id, bytes, tokens)?;
+    Ok((Entry::Item(Item::One(statement), end), rest))
+}
+
+/// The two names after `foreach`, which stand for nothing else.
+fn variables(tokens: &[Token]) -> Result<&[Token], ReadError>
+    ensures goes { (bytes : List ℕ) (k : List Awaited) (n : ℕ) →
+        Goes result (λ r. run (lexemes bytes r.now) (at k n)) (run (lexemes bytes tokens.now) (at (this_sign signs.OpenGroup ∷ any_name ∷ this_sign signs.Comma ∷ any_name ∷ this_sign signs.CloseGroup ∷ k) n)) }
+    ensures shorter { IfOk result (λ r. length r.now < length tokens.now) }
+{
+    let rest = sign_at(Sign::OpenGroup, tokens)?;
+    let rest = any_name_at(rest)?;
+    let rest = sign_at(Sign::Comma, rest)?;
+    let rest = any_name_at(rest)?;
+    sign_at(Sign::CloseGroup, rest)
+}
+
+/// The two sets of a `foreach`, after its names.
+fn crossed<'a>(
+    alloc: Global,
+    bytes: &[u8],
+    tokens: &'a [Token],
+) -> Result<(Name, Name, &'a [Token]), ReadError>
+    ensures goes { (h : Head) →
+        Goes result (λ r. run (lexemes bytes.now r.2.now) (at (this_sign signs.CloseGroup ∷ this_sign signs.Colon ∷ each_id h r.0 r.1 ∷ []) 0)) (run (lexemes bytes.now tokens.now) (at (this_word words.In ∷ this_word words.Cross ∷ this_sign signs.OpenGroup ∷ outer_set h ∷ []) 0)) }
+    ensures shorter { IfOk result (λ r. length r.2.now < length tokens.now) }
+{
+    let rest = word_at(Word::In, tokens)?;
+    let rest = word_at(Word::Cross, rest)?;
+    let rest = sign_at(Sign::OpenGroup, rest)?;
+    let (outer, rest) = name_at(alloc, bytes, rest)?;
+    let rest = sign_at(Sign::Comma, rest)?;
+    let (inner, rest) = name_at(alloc, bytes, rest)?;
+    Ok((outer, inner, rest))
+}
+
+/// What follows `foreach`.
+fn for_each<'a>(
+    alloc: Global,
+    bytes: &[u8],
+    tokens: &'a [Token],
+) -> Result<(Entry, &'a [Token]), ReadError>
+    ensures goes { (h : Head) →
+        Goes result (λ r. run (lexemes bytes.now r.1.now) (after_entry r.0 h)) (run (lexemes bytes.now tokens.now)
+        (at (this_sign signs.OpenGroup ∷ any_name ∷ this_sign signs.Comma ∷ any_name ∷ this_sign signs.CloseGroup ∷ this_word words.In ∷ this_word words.Cross ∷ this_sign signs.OpenGroup ∷ outer_set h ∷ []) 0)) }
+    ensures shorter { IfOk result (λ r. length r.1.now < length tokens.now) }
+{
+    let rest = variables(tokens)?;
+    let (outer, inner, rest) = crossed(alloc, bytes, rest)?;
+    let rest = sign_at(Sign::CloseGroup, rest)?;
+    let rest = sign_at(Sign::Colon, rest)?;
+    let (id, rest) = name_at(alloc, bytes, rest)?;
+    let (statement, end, rest) = statement(alloc, id, bytes, rest)?;
+    let item = Item::ForEach {
+        outer,
+        inner,
+        statement,
+    };
+    Ok((Entry::Item(item, end), rest))
+}
+
+/// What follows `default`, up to the end of the list.
+fn default_path<'a>(
+    alloc: Global,
+    bytes: &[u8],
+    tokens: &'a [Token],
+) -> Result<(Entry, &'a [Token]), ReadError>
+    ensures goes { (h : Head) →
+        Goes result (λ r. run (lexemes bytes.now r.1.now) (after_entry r.0 h)) (run (lexemes bytes.now tokens.now) (at (this_sign signs.Arrow ∷ rep ∷ reps [] ∷ alts [] ∷ default_awaited h ∷ []) 2048)) }
+    ensures shorter { IfOk result (λ r. length r.1.now < length tokens.now) }
+{
+    let rest = sign_at(Sign::Arrow, tokens)?;
+    let (path, rest, _left) = path_of(alloc, bytes, rest, NESTING, NAMES)?;
+    match rest {
+        [
+            Token {
+                kind: Kind::Sign(Sign::CloseList),
+                ..
+            },
+            rest @ ..,
+        ] => Ok((Entry::Default(path), rest)),
+        [
+            Token {
+                kind: Kind::Sign(Sign::Semicolon),
+                ..
+            },
+            rest @ ..,
+        ] => {
+            let rest = sign_at(Sign::CloseList, rest)?;
+            Ok((Entry::Default(path), rest))
+        }
+        _ => Err(ReadError::Syntax(rest.len())),
+    }
+}
+
+/// What stands where an item may begin, with the sign that ends it.
+fn entry_of<'a>(
+    alloc: Global,
+    bytes: &[u8],
+    tokens: &'a [Token],
+) -> Result<(Entry, &'a [Token]), ReadError>
+    ensures goes { (h : Head) →
+        Goes result (λ r. run (lexemes bytes.now r.1.now) (after_entry r.0 h)) (run (lexemes bytes.now tokens.now) (at (item h ∷ []) 0)) }
+    ensures shorter { IfOk result (λ r. length r.1.now < length tokens.now) }
+{
+    match tokens {
+        [
+            Token {
+                kind: Kind::Name,
+                span,
+            },
+            rest @ ..,
+        ] => plain(alloc, text(bytes, *span), bytes, rest),
+        [
+            Token {
+                kind: Kind::Word(Word::Foreach),
+                ..
+            },
+            rest @ ..,
+        ] => for_each(alloc, bytes, rest),
+        [
+            Token {
+                kind: Kind::Word(Word::Default),
+                ..
+            },
+            rest @ ..,
+        ] => default_path(alloc, bytes, rest),
+        [
+            Token {
+                kind: Kind::Sign(Sign::CloseList),
+                ..
+            },
+            rest @ ..,
+        ] => Ok((Entry::End, rest)),
+        _ => Err(ReadError::Syntax(tokens.len())),
+    }
+}
+
+/// The items of the list and its default, and what follows the list.
+pub(crate) fn items<'a>(
+    alloc: Global,
+    bytes: &[u8],
+    tokens: &'a [Token],
+) -> Result<(Items<Item>, Option<RawPath>, &'a [Token]), ReadError>
+    ensures { (sets : List WrittenSet) →
+        Goes result (λ r. run (lexemes bytes.now r.2.now) (at (formula (policy_of sets r.0 r.1 []) ∷ []) 0)) (run (lexemes bytes.now tokens.now) (at (item (record { sets = sets; items = [] }) ∷ []) 0)) }
+{
+    let mut items = Items::new(alloc);
+    let mut rest = tokens;
+    'items: loop {
+        let (entry, others) = entry_of(alloc, bytes, rest)?;
+        match entry {
+            Entry::Item(item, End::Item) => {
+                items.push(item)?;
+                rest = others;
+            }
+            Entry::Item(item, End::List) => {
+                items.push(item)?;
+                return Ok((items, None, others));
+            }
+            Entry::Default(path) => return Ok((items, Some(path), others)),
+            Entry::End => return Ok((items, None, others)),
+        }
+    }
+}

@@ -1,0 +1,66 @@
+//! From the bytes of a policy to what it stands for.
+
+ghost use Rattle.std.specs.Prelude.{◌≡◌, ℕ, IfOk, IfErr, Result};
+ghost use Rattle.policy_expansion.specs.declared.policy.Policy.{Policy};
+ghost use Rattle.policy_parser.specs.declared.fault.PolicyFault.{PolicyFault};
+ghost use Rattle.policy_parser.specs.Policies.{IsWritten, IsRead, IsRefused, IsReading, AreOne, place_of as place};
+
+use crate::fault::{PolicyFault, ReadError};
+use crate::reading::read_policy;
+use merlin_text::{Token, tokens};
+use policy_expansion::{Policy, expand};
+use policy_grammar::written::WrittenPolicy;
+use std::alloc::Global;
+
+/// The policy that the text stands for, or why it stands for none.
+///
+/// # Errors
+/// The first of: a faulty token, the place where the tokens stop being a policy, a fault of the sets, too many statements, a repeated id.
+pub fn parse(alloc: Global, bytes: &[u8]) -> Result<Policy, PolicyFault>
+    ensures reading { IsReading bytes.now result }
+    ensures only { (other : Result Policy PolicyFault) → IsReading bytes.now other → AreOne result other }
+{
+    reading_of(alloc, bytes)
+}
+
+// What the text is read as.
+fn reading_of(alloc: Global, bytes: &[u8]) -> Result<Policy, PolicyFault>
+    ensures { IsReading bytes.now result }
+{
+    let written = written(alloc, bytes)?;
+    Ok(expand(alloc, written)?)
+}
+
+// The policy as it is written.
+fn written(alloc: Global, bytes: &[u8]) -> Result<WrittenPolicy, PolicyFault>
+    ensures ok { IfOk result (IsWritten bytes.now) }
+    ensures err { IfErr result (λ fault. IsRefused fault bytes.now) }
+{
+    match tokens(alloc, bytes) {
+        Ok(tokens) => read(alloc, bytes, &tokens),
+        Err(fault) => Err(PolicyFault::from(fault)),
+    }
+}
+
+// The policy of these tokens as it is written.
+fn read(alloc: Global, bytes: &[u8], tokens: &[Token]) -> Result<WrittenPolicy, PolicyFault>
+    ensures { IsRead bytes.now tokens.now result }
+{
+    match read_policy(alloc, bytes, tokens) {
+        Ok(policy) => Ok(policy),
+        Err(ReadError::Memory) => Err(PolicyFault::OutOfMemory),
+        Err(ReadError::Syntax(left)) => Err(PolicyFault::Syntax {
+            at: place_of(bytes, tokens, tokens.len() - left),
+        }),
+    }
+}
+
+// The byte at which a token starts, by its number; the end past the last one.
+fn place_of(bytes: &[u8], tokens: &[Token], number: usize) -> usize
+    ensures { result ≡ place bytes.now tokens.now number }
+{
+    match tokens.get(number) {
+        Some(token) => token.span.start,
+        None => bytes.len(),
+    }
+}

@@ -1,0 +1,288 @@
+//! Predicates.
+
+ghost use Rattle.std.specs.Prelude.{if◌then◌else◌, ◌≡◌, ◌+◌, ◌<◌, ℕ, List, [], ◌∷◌, ◌++◌, IfOk, Option, Some, None, length, nat_le};
+ghost use Rattle.merlin_model.specs.declared.policy.Pred.{Pred, Test as Tests};
+ghost use Rattle.merlin_model.specs.declared.policy.Test.{Test};
+ghost use Rattle.merlin_model.specs.declared.policy.Test.TheVariants.{Port};
+ghost use Rattle.merlin_text.specs.declared.token.Sign.TheVariants as signs;
+ghost use Rattle.policy_grammar.specs.Lexemes.{lexeme, lexemes};
+ghost use Rattle.policy_grammar.specs.Predicates.{test_of, all_of, any_of};
+ghost use Rattle.policy_grammar.specs.Machine.{Awaited, this_sign, literal as literal_awaited, lits, conjs, whole_pred, second, value_of, is_first as is_first_name, field_at, put, opens, run, at};
+ghost use Rattle.policy_parser.specs.Goes.{Goes};
+
+use crate::fault::ReadError;
+use crate::signs::{sign_at, text};
+use merlin_model::policy::{Field, Pred, Test};
+use merlin_text::{Kind, Sign, Token, Word};
+use policy_grammar::written::Tested;
+use sqlite_items::{Boxed, Items};
+use std::alloc::Global;
+
+fn is_first(name: &[u8]) -> bool
+    ensures { result ≡ is_first_name name.now }
+{
+    name == b"eth".as_slice()
+        || name == b"ip".as_slice()
+        || name == b"tcp".as_slice()
+        || name == b"udp".as_slice()
+}
+
+fn field_of(first: &[u8], second: &[u8]) -> Option<Tested>
+    ensures { result ≡ field_at first.now second.now }
+{
+    if first == b"eth".as_slice() && second == b"src".as_slice() {
+        Some(Tested::EthSrc)
+    } else if first == b"eth".as_slice() && second == b"dst".as_slice() {
+        Some(Tested::EthDst)
+    } else if first == b"ip".as_slice() && second == b"src".as_slice() {
+        Some(Tested::IpSrc)
+    } else if first == b"ip".as_slice() && second == b"dst".as_slice() {
+        Some(Tested::IpDst)
+    } else if first == b"ip".as_slice() && second == b"proto".as_slice() {
+        Some(Tested::IpProto)
+    } else if first == b"tcp".as_slice() && second == b"src".as_slice() {
+        Some(Tested::TcpSrc)
+    } else if first == b"tcp".as_slice() && second == b"dst".as_slice() {
+        Some(Tested::TcpDst)
+    } else if first == b"udp".as_slice() && second == b"src".as_slice() {
+        Some(Tested::UdpSrc)
+    } else if first == b"udp".as_slice() && second == b"dst".as_slice() {
+        Some(Tested::UdpDst)
+    } else {
+        None
+    }
+}
+
+fn port_test(proto: u8, field: Field, number: u32) -> Option<Test>
+    ensures { result ≡ (if nat_le number 65535 then Some (Port proto field number) else None) }
+{
+    match u16::try_from(number) {
+        Ok(value) => Some(Test::Port {
+            proto,
+            field,
+            value,
+        }),
+        Err(_) => None,
+    }
+}
+
+/// The test of a field with a value, where the field takes that token.
+fn test_with(field: Tested, value: Token) -> Option<Test>
+    ensures { (bytes : List ℕ) → result ≡ test_of field (lexeme bytes value) }
+{
+    match (field, value.kind) {
+        (Tested::EthSrc, Kind::Mac(value)) => Some(Test::Is {
+            field: Field::EthSrc,
+            value,
+        }),
+        (Tested::EthDst, Kind::Mac(value)) => Some(Test::Is {
+            field: Field::EthDst,
+            value,
+        }),
+        (Tested::IpSrc, Kind::Ip(ip)) => Some(Test::Is {
+            field: Field::IpSrc,
+            value: ip as u64,
+        }),
+        (Tested::IpDst, Kind::Ip(ip)) => Some(Test::Is {
+            field: Field::IpDst,
+            value: ip as u64,
+        }),
+        (Tested::IpProto, Kind::Number(n)) if 1 <= n && n <= 255 => Some(Test::Is {
+            field: Field::Proto,
+            value: n as u64,
+        }),
+        (Tested::TcpSrc, Kind::Number(n)) => port_test(6, Field::Sport, n),
+        (Tested::TcpDst, Kind::Number(n)) => port_test(6, Field::Dport, n),
+        (Tested::UdpSrc, Kind::Number(n)) => port_test(17, Field::Sport, n),
+        (Tested::UdpDst, Kind::Number(n)) => port_test(17, Field::Dport, n),
+        _ => None,
+    }
+}
+
+/// The field whose first name is read, and what follows its second.
+fn field_part<'a>(
+    first: &[u8],
+    bytes: &[u8],
+    tokens: &'a [Token],
+) -> Result<(Tested, &'a [Token]), ReadError>
+    ensures goes { (k : List Awaited) (n : ℕ) →
+        Goes result (λ r. run (lexemes bytes.now r.1.now) (at (this_sign signs.Equals ∷ value_of r.0 ∷ k) n)) (run (lexemes bytes.now tokens.now) (at (second first.now ∷ k) n)) }
+    ensures shorter { IfOk result (λ r. length r.1.now < length tokens.now) }
+{
+    match tokens {
+        [
+            Token {
+                kind: Kind::Name,
+                span,
+            },
+            rest @ ..,
+        ] => match field_of(first, text(bytes, *span)) {
+            Some(field) => Ok((field, rest)),
+            None => Err(ReadError::Syntax(tokens.len())),
+        },
+        _ => Err(ReadError::Syntax(tokens.len())),
+    }
+}
+
+fn value_part(field: Tested, tokens: &[Token]) -> Result<(Test, &[Token]), ReadError>
+    ensures goes { (bytes : List ℕ) (k : List Awaited) (n : ℕ) →
+        Goes result (λ r. run (lexemes bytes r.1.now) (at (put (Tests r.0) k) n)) (run (lexemes bytes tokens.now) (at (value_of field ∷ k) n)) }
+    ensures shorter { IfOk result (λ r. length r.1.now < length tokens.now) }
+{
+    match tokens {
+        [value, rest @ ..] => match test_with(field, *value) {
+            Some(test) => Ok((test, rest)),
+            None => Err(ReadError::Syntax(tokens.len())),
+        },
+        [] => Err(ReadError::Syntax(0)),
+    }
+}
+
+/// The rest of a test whose first name is read.
+fn test_after<'a>(
+    first: &[u8],
+    bytes: &[u8],
+    tokens: &'a [Token],
+) -> Result<(Test, &'a [Token]), ReadError>
+    ensures goes { (k : List Awaited) (n : ℕ) →
+        Goes result (λ r. run (lexemes bytes.now r.1.now) (at (put (Tests r.0) k) n)) (run (lexemes bytes.now tokens.now) (at (this_sign signs.Dot ∷ second first.now ∷ k) n)) }
+    ensures shorter { IfOk result (λ r. length r.1.now < length tokens.now) }
+{
+    let rest = sign_at(Sign::Dot, tokens)?;
+    let (field, rest) = field_part(first, bytes, rest)?;
+    let rest = sign_at(Sign::Equals, rest)?;
+    value_part(field, rest)
+}
+
+/// One predicate is itself, several are an `All`.
+fn all(mut parts: Items<Pred>) -> Pred
+    ensures { result ≡ all_of parts }
+{
+    if parts.len() == 1 {
+        if let Some(part) = parts.pop() {
+            return part;
+        }
+    }
+    Pred::All(parts)
+}
+
+/// One predicate is itself, several are an `AnyOf`.
+fn any(mut parts: Items<Pred>) -> Pred
+    ensures { result ≡ any_of parts }
+{
+    if parts.len() == 1 {
+        if let Some(part) = parts.pop() {
+            return part;
+        }
+    }
+    Pred::AnyOf(parts)
+}
+
+/// A literal. `room` is how many brackets and bangs may still be opened, `left` how many tests may still come; what is left of these
+/// is given back.
+#[cycle(predicate)]
+fn literal<'a>(
+    alloc: Global,
+    bytes: &[u8],
+    tokens: &'a [Token],
+    room: usize,
+    left: usize,
+) -> Result<(Pred, &'a [Token], usize), ReadError>
+    ensures goes { (k : List Awaited) → opens k + room ≡ 128 →
+        Goes result (λ r. run (lexemes bytes.now r.1.now) (at (put r.0 k) r.2)) (run (lexemes bytes.now tokens.now) (at (literal_awaited ∷ k) left)) }
+    ensures shorter { IfOk result (λ r. length r.1.now < length tokens.now) }
+{
+    let [first, rest @ ..] = tokens else {
+        return Err(ReadError::Syntax(0));
+    };
+    match first.kind {
+        Kind::Sign(Sign::Bang) if 0 < room => {
+            let (pred, rest, left) = literal(alloc, bytes, rest, room - 1, left)?;
+            Ok((Pred::Not(Boxed::new(alloc, pred)?), rest, left))
+        }
+        Kind::Sign(Sign::OpenGroup) if 0 < room => {
+            let (pred, rest, left) = predicate(alloc, bytes, rest, room - 1, left)?;
+            match rest {
+                [
+                    Token {
+                        kind: Kind::Sign(Sign::CloseGroup),
+                        ..
+                    },
+                    rest @ ..,
+                ] => Ok((pred, rest, left)),
+                _ => Err(ReadError::Syntax(rest.len())),
+            }
+        }
+        Kind::Word(Word::True) => Ok((Pred::Yes, rest, left)),
+        Kind::Word(Word::False) => Ok((Pred::No, rest, left)),
+        Kind::Name if 0 < left && is_first(text(bytes, first.span)) => {
+            let (test, rest) = test_after(text(bytes, first.span), bytes, rest)?;
+            Ok((Pred::Test(test), rest, left - 1))
+        }
+        _ => Err(ReadError::Syntax(tokens.len())),
+    }
+}
+
+/// Literals with `and` between them.
+#[cycle(predicate)]
+fn conjunction<'a>(
+    alloc: Global,
+    bytes: &[u8],
+    tokens: &'a [Token],
+    room: usize,
+    left: usize,
+) -> Result<(Pred, &'a [Token], usize), ReadError>
+    ensures goes { (k : List Awaited) (ps : List Pred) → opens k + room ≡ 128 →
+        Goes result (λ r. run (lexemes bytes.now r.1.now) (at (conjs (ps ++ r.0 ∷ []) ∷ k) r.2)) (run (lexemes bytes.now tokens.now) (at (literal_awaited ∷ lits [] ∷ conjs ps ∷ k) left)) }
+    ensures shorter { IfOk result (λ r. length r.1.now < length tokens.now) }
+{
+    let mut parts = Items::new(alloc);
+    let (pred, mut rest, mut spare) = literal(alloc, bytes, tokens, room, left)?;
+    parts.push(pred)?;
+    while let [
+        Token {
+            kind: Kind::Word(Word::And),
+            ..
+        },
+        others @ ..,
+    ] = rest
+    {
+        let (pred, others, fewer) = literal(alloc, bytes, others, room, spare)?;
+        parts.push(pred)?;
+        rest = others;
+        spare = fewer;
+    }
+    Ok((all(parts), rest, spare))
+}
+
+/// A predicate: conjunctions with `or` between them.
+#[cycle(predicate)]
+pub(crate) fn predicate<'a>(
+    alloc: Global,
+    bytes: &[u8],
+    tokens: &'a [Token],
+    room: usize,
+    left: usize,
+) -> Result<(Pred, &'a [Token], usize), ReadError>
+    ensures goes { (k : List Awaited) → opens k + room ≡ 128 →
+        Goes result (λ r. run (lexemes bytes.now r.1.now) (at (whole_pred r.0 ∷ k) r.2)) (run (lexemes bytes.now tokens.now) (at (literal_awaited ∷ lits [] ∷ conjs [] ∷ k) left)) }
+    ensures shorter { IfOk result (λ r. length r.1.now < length tokens.now) }
+{
+    let mut parts = Items::new(alloc);
+    let (pred, mut rest, mut spare) = conjunction(alloc, bytes, tokens, room, left)?;
+    parts.push(pred)?;
+    while let [
+        Token {
+            kind: Kind::Word(Word::Or),
+            ..
+        },
+        others @ ..,
+    ] = rest
+    {
+        let (pred, others, fewer) = conjunction(alloc, bytes, others, room, spare)?;
+        parts.push(pred)?;
+        rest = others;
+        spare = fewer;
+    }
+    Ok((any(parts), rest, spare))
+}

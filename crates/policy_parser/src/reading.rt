@@ -1,0 +1,34 @@
+//! A whole policy from its tokens.
+
+ghost use Rattle.std.specs.Prelude.{ℕ, Result, Ok};
+ghost use Rattle.policy_grammar.specs.declared.written.WrittenPolicy.{WrittenPolicy};
+ghost use Rattle.policy_grammar.specs.Lexemes.{lexemes};
+ghost use Rattle.policy_grammar.specs.Machine.{run, start};
+ghost use Rattle.policy_parser.specs.Goes.{Goes};
+
+use crate::fault::ReadError;
+use crate::items::items;
+use crate::sets::sets;
+use crate::terms::formula_of;
+use merlin_text::Token;
+use policy_grammar::written::WrittenPolicy;
+use std::alloc::Global;
+
+/// The policy as it is written, or how many tokens are left where no policy goes on.
+pub fn read_policy(
+    alloc: Global,
+    bytes: &[u8],
+    tokens: &[Token],
+) -> Result<WrittenPolicy, ReadError>
+    ensures { Goes result (λ policy. (let r : Result WrittenPolicy ℕ = Ok policy in r)) (run (lexemes bytes.now tokens.now) start) }
+{
+    let (sets, rest) = sets(alloc, bytes, tokens)?;
+    let (items, default_path, rest) = items(alloc, bytes, rest)?;
+    let terms = formula_of(alloc, bytes, rest)?;
+    Ok(WrittenPolicy {
+        sets,
+        items,
+        default_path,
+        terms,
+    })
+}

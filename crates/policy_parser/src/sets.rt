@@ -1,0 +1,130 @@
+//! Sets of addresses.
+
+ghost use Rattle.std.specs.Prelude.{◌≡◌, ◌<◌, ℕ, List, [], ◌∷◌, ◌++◌, IfOk, length};
+ghost use Rattle.merlin_text.specs.declared.token.Sign.TheVariants as signs;
+ghost use Rattle.policy_grammar.specs.declared.written.Literal.{Literal};
+ghost use Rattle.policy_grammar.specs.declared.written.WrittenSet.{WrittenSet};
+ghost use Rattle.policy_grammar.specs.Lexemes.{lexemes};
+ghost use Rattle.policy_grammar.specs.Machine.{this_sign, sets as sets_awaited, set_start, set_rest, set_more, with_set, item, run, at, start};
+ghost use Rattle.policy_parser.specs.Goes.{Goes};
+
+use crate::fault::ReadError;
+use crate::signs::{sign_at, text};
+use merlin_model::name::name_from;
+use merlin_text::{Kind, Sign, Token};
+use policy_grammar::written::{Literal, WrittenSet};
+use sqlite_items::Items;
+use std::alloc::Global;
+
+/// An address of a set, and what follows it.
+fn literal_at(tokens: &[Token]) -> Result<(Literal, &[Token]), ReadError>
+    ensures goes { (bytes : List ℕ) (ss : List WrittenSet) (name : List ℕ) (ls : List Literal) →
+        Goes result (λ r. run (lexemes bytes r.1.now) (at (set_rest ss name (ls ++ r.0 ∷ []) ∷ []) 0)) (run (lexemes bytes tokens.now) (at (set_more ss name ls ∷ []) 0)) }
+    ensures shorter { IfOk result (λ r. length r.1.now < length tokens.now) }
+{
+    match tokens {
+        [
+            Token {
+                kind: Kind::Mac(mac),
+                ..
+            },
+            rest @ ..,
+        ] => Ok((Literal::Mac(*mac), rest)),
+        [
+            Token {
+                kind: Kind::Ip(ip),
+                ..
+            },
+            rest @ ..,
+        ] => Ok((Literal::Ip(*ip), rest)),
+        _ => Err(ReadError::Syntax(tokens.len())),
+    }
+}
+
+/// The addresses up to the end of a set.
+fn literals(alloc: Global, tokens: &[Token]) -> Result<(Items<Literal>, &[Token]), ReadError>
+    ensures goes { (bytes : List ℕ) (ss : List WrittenSet) (name : List ℕ) →
+        Goes result (λ r. run (lexemes bytes r.1.now) (at (sets_awaited (with_set ss name r.0) ∷ []) 0)) (run (lexemes bytes tokens.now) (at (set_start ss name ∷ []) 0)) }
+    ensures shorter { IfOk result (λ r. length r.1.now < length tokens.now) }
+{
+    let mut literals = Items::new(alloc);
+    if let [
+        Token {
+            kind: Kind::Sign(Sign::CloseSet),
+            ..
+        },
+        rest @ ..,
+    ] = tokens
+    {
+        return Ok((literals, rest));
+    }
+    let mut rest = tokens;
+    'literals: loop {
+        let (literal, others) = literal_at(rest)?;
+        literals.push(literal)?;
+        match others {
+            [
+                Token {
+                    kind: Kind::Sign(Sign::Comma),
+                    ..
+                },
+                others @ ..,
+            ] => rest = others,
+            [
+                Token {
+                    kind: Kind::Sign(Sign::CloseSet),
+                    ..
+                },
+                others @ ..,
+            ] => return Ok((literals, others)),
+            _ => return Err(ReadError::Syntax(others.len())),
+        }
+    }
+}
+
+/// A set whose name is read.
+fn set_after(alloc: Global, tokens: &[Token]) -> Result<(Items<Literal>, &[Token]), ReadError>
+    ensures goes { (bytes : List ℕ) (ss : List WrittenSet) (name : List ℕ) →
+        Goes result (λ r. run (lexemes bytes r.1.now) (at (sets_awaited (with_set ss name r.0) ∷ []) 0)) (run (lexemes bytes tokens.now) (at (this_sign signs.Becomes ∷ this_sign signs.OpenSet ∷ set_start ss name ∷ []) 0)) }
+    ensures shorter { IfOk result (λ r. length r.1.now < length tokens.now) }
+{
+    let rest = sign_at(Sign::Becomes, tokens)?;
+    let rest = sign_at(Sign::OpenSet, rest)?;
+    literals(alloc, rest)
+}
+
+/// The sets before the list, and what follows its opening.
+pub(crate) fn sets<'a>(
+    alloc: Global,
+    bytes: &[u8],
+    tokens: &'a [Token],
+) -> Result<(Items<WrittenSet>, &'a [Token]), ReadError>
+    ensures { Goes result (λ r. run (lexemes bytes.now r.1.now) (at (item (record { sets = r.0; items = [] }) ∷ []) 0)) (run (lexemes bytes.now tokens.now) start) }
+{
+    let mut sets = Items::new(alloc);
+    let mut rest = tokens;
+    'sets: loop {
+        match rest {
+            [
+                Token {
+                    kind: Kind::Name,
+                    span,
+                },
+                others @ ..,
+            ] => {
+                let name = name_from(alloc, text(bytes, *span))?;
+                let (literals, others) = set_after(alloc, others)?;
+                sets.push(WrittenSet { name, literals })?;
+                rest = others;
+            }
+            [
+                Token {
+                    kind: Kind::Sign(Sign::OpenList),
+                    ..
+                },
+                others @ ..,
+            ] => return Ok((sets, others)),
+            _ => return Err(ReadError::Syntax(rest.len())),
+        }
+    }
+}

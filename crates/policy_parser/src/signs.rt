@@ -1,0 +1,166 @@
+//! Phrases of one token. Each reader takes the tokens from its phrase on, and gives the tokens after it.
+
+ghost use Rattle.std.specs.Prelude.{if◌then◌else◌, ◌≡◌, ◌<◌, ◌&&◌, ℕ, List, [], ◌∷◌, IfOk, Some, length, nat_le, slice_range};
+ghost use Rattle.merlin_model.specs.declared.policy.Bound.{Bound};
+ghost use Rattle.merlin_model.specs.declared.policy.Part.{Part};
+ghost use Rattle.merlin_text.specs.declared.token.Sign.TheVariants as signs;
+ghost use Rattle.policy_grammar.specs.declared.written.WrittenPolicy.{WrittenPolicy};
+ghost use Rattle.policy_grammar.specs.Lexemes.{lexemes};
+ghost use Rattle.policy_grammar.specs.Machine.{Awaited, Head, Opened, this_sign, this_word, any_name, outer_set, inner_set, each_id, heading_of, limit, limit_rate, limit_rest, with_limit, term, leading, term_rate, terms_rest, with_term, sign_number, word_number, run, at};
+ghost use Rattle.policy_parser.specs.Goes.{Goes, statement_awaited};
+
+use crate::fault::ReadError;
+use merlin_model::name::{Name, name_from};
+use merlin_model::policy::Bound;
+use merlin_text::{Kind, Sign, Span, Token, Word};
+use std::alloc::Global;
+
+/// The bytes of a token; none where its ends are none of the text.
+pub(crate) fn text(bytes: &[u8], span: Span) -> &[u8]
+    ensures { result.now ≡ (if nat_le span.start span.end && nat_le span.end (length bytes.now) then slice_range bytes.now span.start span.end else []) }
+{
+    if span.start <= span.end && span.end <= bytes.len() {
+        &bytes[span.start..span.end]
+    } else {
+        &[]
+    }
+}
+
+fn number_of_sign(sign: Sign) -> u8
+    ensures { result ≡ sign_number sign }
+{
+    sign as u8
+}
+
+fn number_of_word(word: Word) -> u8
+    ensures { result ≡ word_number word }
+{
+    word as u8
+}
+
+/// What follows this sign.
+pub(crate) fn sign_at(sign: Sign, tokens: &[Token]) -> Result<&[Token], ReadError>
+    ensures goes { (bytes : List ℕ) (k : List Awaited) (n : ℕ) →
+        Goes result (λ r. run (lexemes bytes r.now) (at k n)) (run (lexemes bytes tokens.now) (at (this_sign sign ∷ k) n)) }
+    ensures shorter { IfOk result (λ r. length r.now < length tokens.now) }
+{
+    match tokens {
+        [
+            Token {
+                kind: Kind::Sign(found),
+                ..
+            },
+            rest @ ..,
+        ] if number_of_sign(sign) == number_of_sign(*found) => Ok(rest),
+        _ => Err(ReadError::Syntax(tokens.len())),
+    }
+}
+
+/// What follows this word.
+pub(crate) fn word_at(word: Word, tokens: &[Token]) -> Result<&[Token], ReadError>
+    ensures goes { (bytes : List ℕ) (k : List Awaited) (n : ℕ) →
+        Goes result (λ r. run (lexemes bytes r.now) (at k n)) (run (lexemes bytes tokens.now) (at (this_word word ∷ k) n)) }
+    ensures shorter { IfOk result (λ r. length r.now < length tokens.now) }
+{
+    match tokens {
+        [
+            Token {
+                kind: Kind::Word(found),
+                ..
+            },
+            rest @ ..,
+        ] if number_of_word(word) == number_of_word(*found) => Ok(rest),
+        _ => Err(ReadError::Syntax(tokens.len())),
+    }
+}
+
+/// What follows a name, whatever it is.
+pub(crate) fn any_name_at(tokens: &[Token]) -> Result<&[Token], ReadError>
+    ensures goes { (bytes : List ℕ) (k : List Awaited) (n : ℕ) →
+        Goes result (λ r. run (lexemes bytes r.now) (at k n)) (run (lexemes bytes tokens.now) (at (any_name ∷ k) n)) }
+    ensures shorter { IfOk result (λ r. length r.now < length tokens.now) }
+{
+    match tokens {
+        [
+            Token {
+                kind: Kind::Name,
+                ..
+            },
+            rest @ ..,
+        ] => Ok(rest),
+        _ => Err(ReadError::Syntax(tokens.len())),
+    }
+}
+
+/// The name of a set after `cross`, or the id of its statement, and what follows it.
+pub(crate) fn name_at<'a>(
+    alloc: Global,
+    bytes: &[u8],
+    tokens: &'a [Token],
+) -> Result<(Name, &'a [Token]), ReadError>
+    ensures outer { (h : Head) →
+        Goes result (λ r. run (lexemes bytes.now r.1.now) (at (this_sign signs.Comma ∷ inner_set h r.0 ∷ []) 0)) (run (lexemes bytes.now tokens.now) (at (outer_set h ∷ []) 0)) }
+    ensures inner { (h : Head) (outer : List ℕ) →
+        Goes result (λ r. run (lexemes bytes.now r.1.now) (at (this_sign signs.CloseGroup ∷ this_sign signs.Colon ∷ each_id h outer r.0 ∷ []) 0)) (run (lexemes bytes.now tokens.now) (at (inner_set h outer ∷ []) 0)) }
+    ensures id { (h : Head) (outer inner : List ℕ) →
+        Goes result (λ r. run (lexemes bytes.now r.1.now) (statement_awaited (heading_of h (Some (outer, inner)) r.0))) (run (lexemes bytes.now tokens.now) (at (each_id h outer inner ∷ []) 0)) }
+    ensures shorter { IfOk result (λ r. length r.1.now < length tokens.now) }
+{
+    match tokens {
+        [
+            Token {
+                kind: Kind::Name,
+                span,
+            },
+            rest @ ..,
+        ] => Ok((name_from(alloc, text(bytes, *span))?, rest)),
+        _ => Err(ReadError::Syntax(tokens.len())),
+    }
+}
+
+/// The bound of a limit or a term, and what follows it.
+pub(crate) fn bound_at(tokens: &[Token]) -> Result<(Bound, &[Token]), ReadError>
+    ensures limit { (bytes : List ℕ) (o : Opened) →
+        Goes result (λ r. run (lexemes bytes r.1.now) (at (this_sign signs.OpenGroup ∷ limit_rate o r.0 ∷ []) 0)) (run (lexemes bytes tokens.now) (at (limit o ∷ []) 0)) }
+    ensures term { (bytes : List ℕ) (w : WrittenPolicy) →
+        Goes result (λ r. run (lexemes bytes r.1.now) (at (this_sign signs.OpenGroup ∷ leading w r.0 [] ∷ []) 0)) (run (lexemes bytes tokens.now) (at (term w ∷ []) 0)) }
+    ensures shorter { IfOk result (λ r. length r.1.now < length tokens.now) }
+{
+    match tokens {
+        [
+            Token {
+                kind: Kind::Word(Word::Max),
+                ..
+            },
+            rest @ ..,
+        ] => Ok((Bound::Max, rest)),
+        [
+            Token {
+                kind: Kind::Word(Word::Min),
+                ..
+            },
+            rest @ ..,
+        ] => Ok((Bound::Min, rest)),
+        _ => Err(ReadError::Syntax(tokens.len())),
+    }
+}
+
+/// The rate of a limit or a term, and what follows it.
+pub(crate) fn rate_at(tokens: &[Token]) -> Result<(u64, &[Token]), ReadError>
+    ensures limit { (bytes : List ℕ) (o : Opened) (b : Bound) →
+        Goes result (λ r. run (lexemes bytes r.1.now) (at (this_sign signs.CloseGroup ∷ limit_rest (with_limit o b r.0) ∷ []) 0)) (run (lexemes bytes tokens.now) (at (limit_rate o b ∷ []) 0)) }
+    ensures term { (bytes : List ℕ) (w : WrittenPolicy) (b : Bound) (parts : List Part) →
+        Goes result (λ r. run (lexemes bytes r.1.now) (at (this_sign signs.CloseGroup ∷ terms_rest (with_term w b parts r.0) ∷ []) 0)) (run (lexemes bytes tokens.now) (at (term_rate w b parts ∷ []) 0)) }
+    ensures shorter { IfOk result (λ r. length r.1.now < length tokens.now) }
+{
+    match tokens {
+        [
+            Token {
+                kind: Kind::Rate(rate),
+                ..
+            },
+            rest @ ..,
+        ] => Ok((*rate, rest)),
+        _ => Err(ReadError::Syntax(tokens.len())),
+    }
+}

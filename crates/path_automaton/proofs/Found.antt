@@ -1,10 +1,10 @@
 -- Laws of states that are named by places of forms.
-use Rattle.std.proofs.Common.{◌≡◌, ◌<◌, ◌==◌, ◌||◌, ℕ, suc, zero, nat_eq, Bool, true, false, cond, List, [], ◌∷◌, ◌++◌, length, map, get_or, slice_get, Some, refl, sym, ◌∙◌, ap, ap₂, subst, arith}
+use Rattle.std.proofs.Common.{◌≡◌, ◌<◌, ◌||◌, ℕ, suc, zero, nat_eq, Bool, true, false, cond, List, [], ◌∷◌, ◌++◌, length, map, get_or, slice_get, Some, refl, sym, ◌∙◌, ap, ap₂, subst, arith}
 use Rattle.std.specs.List.{list_any}
 use Rattle.std.proofs.lemmas.Bool.{eqb-true}
 use Rattle.merlin_model.specs.declared.policy.Path.{Path, Nothing}
 use Rattle.path_automaton.specs.States.{noted}
-use Rattle.path_automaton.specs.Shared.{form_at, AreDistinct, AreFound, Grows, Names}
+use Rattle.path_automaton.specs.Shared.{form_at, AreDistinct, AreFound, Grows}
 use Rattle.path_automaton.proofs.Places.{is, is-same, is-itself, false-true}
 use Rattle.path_automaton.proofs.Sharing.{kept, within}
 

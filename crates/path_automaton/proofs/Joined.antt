@@ -1,5 +1,5 @@
 -- Laws of joining normal forms that share their parts.
-use Rattle.std.proofs.Common.{◌≡◌, ◌<◌, ◌≤◌, ◌||◌, ℕ, List, [], ◌∷◌, ◌++◌, length, map, refl, sym, ◌∙◌, ap, ap₂, subst, arith}
+use Rattle.std.proofs.Common.{◌≡◌, ◌<◌, ◌||◌, ℕ, List, [], ◌∷◌, ◌++◌, length, map, refl, sym, ◌∙◌, ap, ap₂, subst, arith}
 use Rattle.std.specs.List.{AllByRecursion, flat_map, list_any}
 use Rattle.std.specs.Ordering.{match_ordering}
 use Rattle.std.specs.declared.cmp.Ordering.{Ordering}
@@ -7,8 +7,8 @@ use Rattle.std.specs.declared.cmp.Ordering.TheVariants.{Less, Equal, Greater}
 use Rattle.merlin_model.specs.declared.policy.Path.{Path, Nothing, Cat, Alt, Star, Not}
 use Rattle.path_regex.specs.Derivatives.{takes_empty}
 use Rattle.path_regex.specs.Order.{order, rank}
-use Rattle.path_regex.specs.Normal.{before, members, added, added_all, one_of, alt_of, star_of, not_of, normal_of}
-use Rattle.path_regex.proofs.Shapes.{takes_empty-Alt, members-Alt, before-Cat, star_of-Star, not_of-Not, added_all-append, flat_map-last}
+use Rattle.path_regex.specs.Normal.{members, added, added_all, one_of, normal_of}
+use Rattle.path_regex.proofs.Shapes.{takes_empty-Alt, members-Alt, added_all-append, flat_map-last}
 use Rattle.path_automaton.specs.declared.forms.Node.{Node}
 use Rattle.path_automaton.specs.declared.forms.Node.TheVariants.{Nothing as NodeNothing, Empty as NodeEmpty, Dot as NodeDot, Loc as NodeLoc, Fun as NodeFun, Cat as NodeCat, Alt as NodeAlt, Star as NodeStar, Not as NodeNot}
 use Rattle.path_automaton.specs.Shared.{form_at, alt_by, IsChain, meaning, IsNode, Grows, Names, node_rank}
@@ -82,7 +82,6 @@ module _ (forms : List Path) (k : ℕ) (n : Node) (h : IsNode forms k n) where
 
   pub no-Nothing : (n ≡ NodeNothing → ⊥) → form_at forms k ≡ Nothing → ⊥
   no-Nothing other e = other (rank-one n (sym (rank-meaning forms n) ∙ ap rank (sym h.1 ∙ e)))
-
 
 -- Members put in their places.
 

@@ -4,7 +4,7 @@ use Rattle.std.specs.Ordering.{is_eq, ordering_then, ordering_reverse}
 use Rattle.std.specs.Cmp.Lexicographic.{slice_cmp, nat_list_cmp_total}
 use Rattle.std.specs.declared.cmp.Ordering.{Ordering}
 use Rattle.std.specs.declared.cmp.Ordering.TheVariants.{Less, Equal, Greater}
-use Rattle.merlin_model.specs.declared.policy.Path.{Path, Nothing, Cat, Alt, Star, Not}
+use Rattle.merlin_model.specs.declared.policy.Path.{Path, Nothing, Alt}
 use Rattle.merlin_model.specs.declared.policy.Path.TheBlock.{hidden-the_row-Path-0, hidden-the_row-Path-1}
 use denote.Hole.Carrier.{hidden}
 use Rattle.path_regex.specs.Order.{order, spelled, rank}

@@ -4,7 +4,6 @@
 mod automaton;
 mod classes;
 mod comparing;
-
 mod exploring;
 mod fault;
 mod forms;

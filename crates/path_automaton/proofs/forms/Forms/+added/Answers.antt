@@ -1,7 +1,6 @@
-use Rattle.std.proofs.Common.{◌≡◌, IfOk, sym, ◌∙◌, ap, subst, arith}
+use Rattle.std.proofs.Common.{IfOk, sym, ◌∙◌, ap, subst, arith}
 use Rattle.merlin_model.specs.declared.policy.Path.{Path}
-use Rattle.path_regex.specs.Normal.{members, added}
-use Rattle.path_automaton.specs.Shared.{form_at, alt_by, Names}
+use Rattle.path_automaton.specs.Shared.{alt_by, Names}
 use Rattle.path_automaton.proofs.Sharing.{kept, within}
 use Rattle.path_automaton.proofs.Joined.{members-at, parts-Alt, named-chain, added-less, added-equal, added-greater}
 use Rattle.path_automaton.proofs.forms.Forms.+added.Goals as goal

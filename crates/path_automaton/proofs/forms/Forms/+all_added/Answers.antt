@@ -1,4 +1,4 @@
-use Rattle.std.proofs.Common.{◌≡◌, List, IfOk, sym, ◌∙◌, ap, ap₂, subst, arith}
+use Rattle.std.proofs.Common.{List, IfOk, sym, ◌∙◌, ap, ap₂, subst, arith}
 use Rattle.merlin_model.specs.declared.policy.Path.{Path}
 use Rattle.path_regex.specs.Normal.{members, added, added_all}
 use Rattle.path_automaton.specs.Shared.{form_at, alt_by, Names}

@@ -1,4 +1,4 @@
-use Rattle.std.proofs.Common.{◌≡◌, IfOk, sym, ◌∙◌, ap, ap₂, subst, arith}
+use Rattle.std.proofs.Common.{IfOk, sym, ◌∙◌, ap, ap₂, subst, arith}
 use Rattle.merlin_model.specs.declared.policy.Path.{Path, Cat}
 use Rattle.path_regex.specs.Normal.{before}
 use Rattle.path_regex.proofs.Shapes.{before-Cat}

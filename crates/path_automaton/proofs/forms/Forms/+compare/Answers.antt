@@ -1,7 +1,5 @@
-use Rattle.std.proofs.Common.{◌≡◌, ◌≤◌, ◌⊎◌, inl, inr, true, ap, subst, sym, ◌∙◌, nat_cmp, arith}
+use Rattle.std.proofs.Common.{◌≡◌, ◌≤◌, ◌⊎◌, inl, inr, ap, subst, sym, ◌∙◌, nat_cmp, arith}
 use Rattle.std.specs.Ordering.{is_eq, ordering_then}
-use Rattle.std.specs.declared.cmp.Ordering.{Ordering}
-use Rattle.std.specs.declared.cmp.Ordering.TheVariants.{Equal}
 use Rattle.path_regex.specs.Order.{order}
 use Rattle.path_regex.proofs.Ordered.{decides}
 use Rattle.path_automaton.specs.declared.forms.Node.{Node}

@@ -1,4 +1,4 @@
-use Rattle.std.proofs.Common.{rules, ◌≡◌, ◌<◌, ◌+◌, ◌*◌, ◌∷◌, ◌++◌, [], IfOk, List, ℕ, Option, map, sym, ◌∙◌, ap, ap₂, subst, arith}
+use Rattle.std.proofs.Common.{rules, ◌∷◌, [], IfOk, List, ℕ, Option, map, sym, ◌∙◌, ap, ap₂, subst, arith}
 use Rattle.std.specs.List.{flat_map}
 use Rattle.merlin_model.specs.declared.policy.Path.{Path}
 use Rattle.path_regex.specs.Normal.{members, added_all, ascending, one_of, cat_of, alt_of, not_of}
@@ -16,12 +16,13 @@ derivative-returns-then-not-takes_empty-clause-value t c =
     let tail = parts.1 in
     let form = c.requires in
     let g = c.in_ok-after-in-Cat.ensures.grows in
-    let last = sym (c.takes_empty.ensures ∙ ap takes_empty (kept (grows-twice g c.in_ok-way-in-Cat.ensures.grows) c.in-Cat.first (omega arith))) ∙ c.if-not-takes_empty.true in
-    (c.in_ok-way-in-Cat.ensures.value.0,
-    c.in_ok-way-in-Cat.ensures.value.1
-    ∙ ap₂ cat_of c.in_ok-after-in-Cat.ensures.value.1 (kept g c.in-Cat.rest (omega arith))
-    ∙ sym (ap (λ (a : Path). derivative_of a c.args.symbol) (is-Cat _ _ _ c.node.ensures _ _ c.in-Cat.is) ∙ derivative_of-Cat _ _ _
-    ∙ ap (λ b. with_next b (cat_of (derivative_of (form_at c.args.self.now c.in-Cat.first) c.args.symbol) (form_at c.args.self.now c.in-Cat.rest)) (derivative_of (form_at c.args.self.now c.in-Cat.rest) c.args.symbol)) last))
+    let last = sym (c.takes_empty.ensures ∙ ap takes_empty (kept (grows-twice g c.in_ok-way-in-Cat.ensures.grows) c.in-Cat.first (omega arith))) ∙ c.if-not-takes_empty.true in (
+      c.in_ok-way-in-Cat.ensures.value.0,
+      c.in_ok-way-in-Cat.ensures.value.1
+          ∙ ap₂ cat_of c.in_ok-after-in-Cat.ensures.value.1 (kept g c.in-Cat.rest (omega arith))
+          ∙ sym (ap (λ (a : Path). derivative_of a c.args.symbol) (is-Cat _ _ _ c.node.ensures _ _ c.in-Cat.is) ∙ derivative_of-Cat _ _ _
+          ∙ ap (λ b. with_next b (cat_of (derivative_of (form_at c.args.self.now c.in-Cat.first) c.args.symbol) (form_at c.args.self.now c.in-Cat.rest)) (derivative_of (form_at c.args.self.now c.in-Cat.rest) c.args.symbol)) last),
+    )
 
 pub derivative-derivatives-requires : goal.derivative-derivatives-requires
 derivative-derivatives-requires t c = (search rules, (c.requires, alt-chain _ _ _ c.node.ensures _ _ c.in-Alt.is))
@@ -48,12 +49,13 @@ derivative-returns-in_ok-other-in-Cat-clause-value t c =
     c.either.ensures.value
 
 pub derivative-returns-in_ok-all-in-Alt-clause-value : goal.derivative-returns-in_ok-all-in-Alt-clause-value
-derivative-returns-in_ok-all-in-Alt-clause-value t c =
-    (c.one_of.ensures.0,
-    c.one_of.ensures.1
-    ∙ ap one_of (named-members c.derivatives.new.self c.in_ok-all-in-Alt.all _ c.in_ok-all-in-Alt.ensures.value.1)
-    ∙ ap (λ (l : List Path). alt_of (map (λ a. derivative_of a c.args.symbol) l)) (members-at _ _ _ c.node.ensures _ _ c.in-Alt.is)
-    ∙ sym (ap (λ (a : Path). derivative_of a c.args.symbol) (is-Alt _ _ _ c.node.ensures _ _ c.in-Alt.is) ∙ derivative_of-Alt _ _))
+derivative-returns-in_ok-all-in-Alt-clause-value t c = (
+  c.one_of.ensures.0,
+  c.one_of.ensures.1
+      ∙ ap one_of (named-members c.derivatives.new.self c.in_ok-all-in-Alt.all _ c.in_ok-all-in-Alt.ensures.value.1)
+      ∙ ap (λ (l : List Path). alt_of (map (λ a. derivative_of a c.args.symbol) l)) (members-at _ _ _ c.node.ensures _ _ c.in-Alt.is)
+      ∙ sym (ap (λ (a : Path). derivative_of a c.args.symbol) (is-Alt _ _ _ c.node.ensures _ _ c.in-Alt.is) ∙ derivative_of-Alt _ _),
+)
 
 pub derivative-returns-in_ok-after-in-Star-clause-value : goal.derivative-returns-in_ok-after-in-Star-clause-value
 derivative-returns-in_ok-after-in-Star-clause-value t c =

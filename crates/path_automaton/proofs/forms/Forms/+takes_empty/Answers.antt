@@ -5,7 +5,7 @@ use Rattle.path_regex.proofs.Shapes.{takes_empty-Cat, takes_empty-Star, takes_em
 use Rattle.path_automaton.specs.declared.forms.Node.{Node}
 use Rattle.path_automaton.specs.declared.forms.Node.TheVariants.{Empty as NodeEmpty, Star as NodeStar}
 use Rattle.path_automaton.specs.Shared.{form_at, meaning, IsNode}
-use Rattle.path_automaton.proofs.Joined.{is-Cat, is-Alt, is-Star, is-Not, takes-Alt, parts-Alt}
+use Rattle.path_automaton.proofs.Joined.{is-Cat, is-Star, is-Not, takes-Alt}
 use Rattle.path_automaton.proofs.forms.Forms.+takes_empty.Goals as goal
 
 always : (forms : List Path) (k : ℕ) (n : Node) → IsNode forms k n → (n ≡ NodeEmpty) ⊎ ((a : ℕ) × (n ≡ NodeStar a)) → true ≡ takes_empty (form_at forms k)

@@ -1,4 +1,4 @@
-use Rattle.std.proofs.Common.{◌≡◌, ◌∷◌, ◌++◌, [], List, sym, ◌∙◌, ap, ap₂}
+use Rattle.std.proofs.Common.{◌≡◌, ◌++◌, [], List, sym, ◌∙◌, ap, ap₂}
 use Rattle.merlin_model.specs.declared.policy.Path.{Path}
 use Rattle.path_regex.specs.Normal.{members, added_all, one_of}
 use Rattle.path_regex.proofs.Shapes.{added_all-append}
@@ -23,7 +23,8 @@ returns-clause-value c =
     ∙ ap₂ (λ (a b : Path). added_all (members a) (members b)) (kept c.in_ok-none.ensures.grows c.args.second c.requires.second) none in
     let all : members (form_at c.all_added-2.new.self c.in_ok-all.all) ≡ added_all (members first) (added_all (members second) []) =
     named-members c.all_added-2.new.self c.in_ok-all.all _ c.in_ok-all.ensures.value.1
-    ∙ ap₂ (λ (a : Path) (l : List Path). added_all (members a) l) (kept (grows-twice c.in_ok-none.ensures.grows c.in_ok-one.ensures.grows) c.args.first c.requires.first) one in
-    (c.one_of.ensures.0,
-    c.one_of.ensures.1
-    ∙ ap one_of (all ∙ sym (added_all-append (members first) (members second ++ []) [] ∙ ap (added_all (members first)) (added_all-append (members second) [] []))))
+    ∙ ap₂ (λ (a : Path) (l : List Path). added_all (members a) l) (kept (grows-twice c.in_ok-none.ensures.grows c.in_ok-one.ensures.grows) c.args.first c.requires.first) one in (
+      c.one_of.ensures.0,
+      c.one_of.ensures.1
+          ∙ ap one_of (all ∙ sym (added_all-append (members first) (members second ++ []) [] ∙ ap (added_all (members first)) (added_all-append (members second) [] []))),
+    )

@@ -1,4 +1,4 @@
-use Rattle.std.proofs.Common.{◌≡◌, Some, sym, ◌∙◌, ap, subst}
+use Rattle.std.proofs.Common.{sym, ◌∙◌, ap, subst}
 use Rattle.std.specs.Option.{option_copied}
 use Rattle.path_automaton.specs.Shared.{IsNode}
 use Rattle.path_automaton.proofs.forms.Forms.node.Goals as goal

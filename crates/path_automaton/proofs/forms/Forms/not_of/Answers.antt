@@ -1,7 +1,6 @@
 use Rattle.std.proofs.Common.{sym, ◌∙◌, ap, arith}
 use Rattle.path_regex.specs.Normal.{not_of}
 use Rattle.path_regex.proofs.Shapes.{not_of-Not}
-use Rattle.path_automaton.specs.Shared.{IsNode}
 use Rattle.path_automaton.proofs.Joined.{is-Not, part-Not}
 use Rattle.path_automaton.proofs.forms.Forms.not_of.Goals as goal
 

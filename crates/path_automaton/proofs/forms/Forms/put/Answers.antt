@@ -1,8 +1,8 @@
-use Rattle.std.proofs.Common.{◌≡◌, ◌<◌, List, [], ℕ, length, true, sym, subst, rules, Bool}
+use Rattle.std.proofs.Common.{◌≡◌, [], length, true, sym, subst, rules}
 use Rattle.path_automaton.specs.declared.forms.Node.{Node}
 use Rattle.path_automaton.specs.Shared.{meaning, meanings, IsGrounded, Grows, Names}
 use Rattle.path_automaton.specs.contracts.forms.NodePartialEq.TheImpl.{eq-value}
-use Rattle.path_automaton.proofs.Sharing.{IsPut, put-answer, put-names}
+use Rattle.path_automaton.proofs.Sharing.{put-answer, put-names}
 use Rattle.path_automaton.proofs.forms.Forms.put.Goals as goal
 
 same : (x y : Node) → eq-value.it x y ≡ true → x ≡ y

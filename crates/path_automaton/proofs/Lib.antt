@@ -7,3 +7,7 @@ pub mod Following
 pub mod LivingLaws
 pub mod Building
 pub mod Tables
+mod Sharing
+mod Ranked
+mod Joined
+mod Found

@@ -1,6 +1,6 @@
 pub mod States
+pub mod Shared
 pub mod Automata
-pub mod Index
 pub mod Kinds
 pub mod Classes
 pub mod Followed

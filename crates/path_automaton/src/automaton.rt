@@ -13,7 +13,6 @@ use crate::living::living;
 use crate::states::States;
 use merlin_model::OutOfMemory;
 use merlin_model::policy::{Path, Symbol};
-use path_regex::normal;
 use sqlite_items::Items;
 use std::alloc::Global;
 use std::marker::Model;
@@ -99,9 +98,8 @@ pub fn build(alloc: Global, path: &Path, symbols: &[Symbol]) -> Result<Automaton
     ensures built { IsBuilt path.now symbols.now result }
     ensures language { HasNoFunctionUnderNot path.now → IfOk result (λ automaton. IsAutomatonOf symbols.now automaton path.now) }
 {
-    let form = normal(alloc, path)?;
     let Classes { numbers, firsts } = Classes::new(alloc, path, symbols)?;
-    let Explored { states, rows } = explore(alloc, form, firsts.as_slice())?;
+    let Explored { states, rows } = explore(alloc, path, firsts.as_slice())?;
     let accepting = accepting(alloc, &states)?;
     let living = living(alloc, rows.as_slice(), accepting.as_slice())?;
     Ok(Automaton {

@@ -3,6 +3,7 @@
 ghost use Rattle.std.specs.Prelude.{◌≡◌, ◌<◌, ◌≤◌, length};
 ghost use Rattle.merlin_model.specs.declared.policy.Path.{Nothing};
 ghost use Rattle.std.proofs.Common.{get_or};
+ghost use Rattle.path_regex.specs.Normal.{normal_of};
 ghost use Rattle.path_automaton.specs.Followed.{IsRow, IsExplored};
 
 use crate::fault::AutomatonFault;
@@ -27,8 +28,7 @@ fn row(
 {
     let mut places = Items::new(alloc);
     for symbol in symbols {
-        let next = states.next(alloc, state, *symbol)?;
-        let place = states.note(alloc, next)?;
+        let place = states.follow(state, *symbol)?;
         if LIMIT < states.len() {
             return Err(AutomatonFault::TooManyStates {
                 count: LIMIT as u64 + 1,
@@ -46,11 +46,11 @@ pub struct Explored {
     pub rows: Items<Items<usize>>,
 }
 
-/// Finds the states of a normal form, state by state in turn and symbol by symbol in order.
-pub fn explore(alloc: Global, form: Path, symbols: &[Symbol]) -> Result<Explored, AutomatonFault>
-    ensures { IsExplored form symbols.now result }
+/// Finds the states of a path, state by state in turn and symbol by symbol in order.
+pub fn explore(alloc: Global, path: &Path, symbols: &[Symbol]) -> Result<Explored, AutomatonFault>
+    ensures { IsExplored (normal_of path.now) symbols.now result }
 {
-    let mut states = States::new(alloc, form)?;
+    let mut states = States::new(alloc, path)?;
     let mut rows = Items::new(alloc);
     'turns: while rows.len() < states.len() {
         rows.push(row(alloc, &mut states, rows.len(), symbols)?)?;

@@ -3,10 +3,14 @@
 
 mod automaton;
 mod classes;
+mod comparing;
 mod exploring;
 mod fault;
+mod forms;
+mod joining;
 mod living;
 mod states;
+mod stepping;
 
 pub use automaton::{Automaton, build};
 pub use fault::AutomatonFault;

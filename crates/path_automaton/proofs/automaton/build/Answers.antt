@@ -23,21 +23,21 @@ use Rattle.path_automaton.proofs.automaton.build.Goals as goal
 abbrev AreFound : Path → Classes → Explored → Type 0
 AreFound path c e = AreExploring (normal_of path) c.firsts e.states e.rows × (length e.rows ≡ length e.states)
 
-found : (path form : Path) (c : Classes) (firsts : List Symbol) (e : Explored) → form ≡ normal_of path → firsts ≡ c.firsts → IsExplored form firsts (Ok e) → AreFound path c e
-found path form c firsts e f s h = subst (λ a. AreExploring a c.firsts e.states e.rows × (length e.rows ≡ length e.states)) f (subst (λ l. AreExploring form l e.states e.rows × (length e.rows ≡ length e.states)) s h)
+found : (path : Path) (c : Classes) (firsts : List Symbol) (e : Explored) → firsts ≡ c.firsts → IsExplored (normal_of path) firsts (Ok e) → AreFound path c e
+found path c firsts e s h = subst (λ l. AreExploring (normal_of path) l e.states e.rows × (length e.rows ≡ length e.states)) s h
 
 -- a fault that is passed on
-passed : (path form : Path) (symbols : List Symbol) (c : Classes) (firsts : List Symbol) → AreClasses path symbols c → form ≡ normal_of path → firsts ≡ c.firsts → (e : AutomatonFault) → IsExplored form firsts (Err e) →
+passed : (path : Path) (symbols : List Symbol) (c : Classes) (firsts : List Symbol) → AreClasses path symbols c → firsts ≡ c.firsts → (e : AutomatonFault) → IsExplored (normal_of path) firsts (Err e) →
     (r : Result Tables AutomatonFault) → IsErrAnd r (λ f. f ≡ e) → IsBuilt path symbols r
-passed path form symbols c firsts are f s e h (Ok x) i = absurd i
-passed path form symbols c firsts are f s (TooManyStates count) h (Err g) i =
+passed path symbols c firsts are s e h (Ok x) i = absurd i
+passed path symbols c firsts are s (TooManyStates count) h (Err g) i =
     subst (λ fault. IsBuilt path symbols (Err fault)) (sym i)
-    (h.0, too_many-states path symbols c are count (subst (λ a. HasMany a c.firsts count) f (subst (λ l. HasMany form l count) s h.1)))
-passed path form symbols c firsts are f s OutOfMemory h (Err g) i = subst (λ fault. IsBuilt path symbols (Err fault)) (sym i) tt
+    (h.0, too_many-states path symbols c are count (subst (λ l. HasMany (normal_of path) l count) s h.1))
+passed path symbols c firsts are s OutOfMemory h (Err g) i = subst (λ fault. IsBuilt path symbols (Err fault)) (sym i) tt
 
 pub returns-in_err-states-clause-built : goal.returns-in_err-states-clause-built
 returns-in_err-states-clause-built c =
-    passed c.args.path.now c.in_ok-form.form c.args.symbols.now c.in_ok-numbers.field-0 c.as_slice.result.now c.in_ok-numbers.ensures c.in_ok-form.ensures.is c.as_slice.ensures
+    passed c.args.path.now c.args.symbols.now c.in_ok-numbers.field-0 c.as_slice.result.now c.in_ok-numbers.ensures c.as_slice.ensures
     c.in_err-states.field-0.0 c.in_err-states.ensures c.from_residual-in_err-states.result c.from_residual-in_err-states.ensures.1
 
 pub living-requires : goal.living-requires
@@ -45,7 +45,7 @@ living-requires c =
     let classes : Classes = c.in_ok-numbers.field-0 in
     let e : Explored = c.in_ok-states.field-0 in
     let are : AreClasses c.args.path.now c.args.symbols.now classes = c.in_ok-numbers.ensures in
-    let f : AreFound c.args.path.now classes e = found c.args.path.now c.in_ok-form.form classes c.as_slice.result.now e c.in_ok-form.ensures.is c.as_slice.ensures c.in_ok-states.ensures in
+    let f : AreFound c.args.path.now classes e = found c.args.path.now classes c.as_slice.result.now e c.as_slice.ensures c.in_ok-states.ensures in
     let flags : c.as_slice-3.result.now ≡ map takes_empty e.states = c.as_slice-3.ensures ∙ c.in_ok-accepting.ensures in
     let r : AreInside c.as_slice-2.result.now (length c.as_slice-3.result.now) =
     subst (λ (rows : List (List ℕ)). AreInside rows (length c.as_slice-3.result.now)) (sym c.as_slice-2.ensures)
@@ -57,7 +57,7 @@ invariant_of-result c =
     let classes : Classes = c.in_ok-numbers.field-0 in
     let e : Explored = c.in_ok-states.field-0 in
     let are : AreClasses c.args.path.now c.args.symbols.now classes = c.in_ok-numbers.ensures in
-    let f : AreFound c.args.path.now classes e = found c.args.path.now c.in_ok-form.form classes c.as_slice.result.now e c.in_ok-form.ensures.is c.as_slice.ensures c.in_ok-states.ensures in
+    let f : AreFound c.args.path.now classes e = found c.args.path.now classes c.as_slice.result.now e c.as_slice.ensures c.in_ok-states.ensures in
     let flags : c.in_ok-accepting.accepting ≡ map takes_empty e.states = c.in_ok-accepting.ensures in
     let living : AreLiving e.rows (map takes_empty e.states) c.in_ok-living.living =
     subst (λ (l : List Bool). AreLiving e.rows l c.in_ok-living.living) (c.as_slice-3.ensures ∙ flags)
@@ -69,7 +69,7 @@ returns-clause-built c =
     let classes : Classes = c.in_ok-numbers.field-0 in
     let e : Explored = c.in_ok-states.field-0 in
     let are : AreClasses c.args.path.now c.args.symbols.now classes = c.in_ok-numbers.ensures in
-    let f : AreFound c.args.path.now classes e = found c.args.path.now c.in_ok-form.form classes c.as_slice.result.now e c.in_ok-form.ensures.is c.as_slice.ensures c.in_ok-states.ensures in
+    let f : AreFound c.args.path.now classes e = found c.args.path.now classes c.as_slice.result.now e c.as_slice.ensures c.in_ok-states.ensures in
     let flags : c.in_ok-accepting.accepting ≡ map takes_empty e.states = c.in_ok-accepting.ensures in
     let living : AreLiving e.rows (map takes_empty e.states) c.in_ok-living.living =
     subst (λ (l : List Bool). AreLiving e.rows l c.in_ok-living.living) (c.as_slice-3.ensures ∙ flags)
@@ -85,7 +85,7 @@ returns-clause-language c =
     let classes : Classes = c.in_ok-numbers.field-0 in
     let e : Explored = c.in_ok-states.field-0 in
     let are : AreClasses c.args.path.now c.args.symbols.now classes = c.in_ok-numbers.ensures in
-    let f : AreFound c.args.path.now classes e = found c.args.path.now c.in_ok-form.form classes c.as_slice.result.now e c.in_ok-form.ensures.is c.as_slice.ensures c.in_ok-states.ensures in
+    let f : AreFound c.args.path.now classes e = found c.args.path.now classes c.as_slice.result.now e c.as_slice.ensures c.in_ok-states.ensures in
     let flags : c.in_ok-accepting.accepting ≡ map takes_empty e.states = c.in_ok-accepting.ensures in
     let living : AreLiving e.rows (map takes_empty e.states) c.in_ok-living.living =
     subst (λ (l : List Bool). AreLiving e.rows l c.in_ok-living.living) (c.as_slice-3.ensures ∙ flags)

@@ -2,6 +2,7 @@ use Rattle.std.proofs.Common.{◌≡◌, ◌<◌, ℕ, List, length, get_or, Res
 use Rattle.std.specs.Result.{IsErrAnd}
 use Rattle.merlin_model.specs.declared.policy.Symbol.{Symbol}
 use Rattle.merlin_model.specs.declared.policy.Path.{Path, Nothing}
+use Rattle.path_regex.specs.Normal.{normal_of}
 use Rattle.path_automaton.specs.declared.fault.AutomatonFault.{AutomatonFault}
 use Rattle.path_automaton.specs.declared.fault.AutomatonFault.TheVariants.{TooManyStates, OutOfMemory}
 use Rattle.path_automaton.specs.declared.exploring.Explored.{Explored}
@@ -22,7 +23,7 @@ returns-in_err-row c =
     let a = c.len.ensures in
     let b = c.len-in-turns.ensures in
     let d = c.turns-test.true in
-    passed c.args.form c.args.symbols.now c.turns.states c.turns.rows c.turns.invariant (omega arith) c.row.new.states c.in_err-row.field-0.0
+    passed (normal_of c.args.path.now) c.args.symbols.now c.turns.states c.turns.rows c.turns.invariant (omega arith) c.row.new.states c.in_err-row.field-0.0
     (subst (λ k. IsRow c.turns.states (get_or c.turns.states k Nothing) c.args.symbols.now c.row.new.states (Err c.in_err-row.field-0.0)) c.len-in-turns-2.ensures c.in_err-row.ensures)
     c.from_residual-in_err-row.result c.from_residual-in_err-row.ensures.1
 
@@ -33,5 +34,5 @@ turns-preserved c =
     let d = c.turns-test.true in
     let row : List ℕ = c.in_ok-row.field-0 in
     let made = subst (λ k. IsRow c.turns.states (get_or c.turns.states k Nothing) c.args.symbols.now c.row.new.states (Ok row)) c.len-in-turns-2.ensures c.in_ok-row.ensures in
-    subst (λ (rows : List (List ℕ)). AreExploring c.args.form c.args.symbols.now c.row.new.states rows) (sym c.in_ok-push.ensures.ok)
-    (turn c.args.form c.args.symbols.now c.turns.states c.turns.rows c.turns.invariant (omega arith) c.row.new.states row made.0 made.1 made.2)
+    subst (λ (rows : List (List ℕ)). AreExploring (normal_of c.args.path.now) c.args.symbols.now c.row.new.states rows) (sym c.in_ok-push.ensures.ok)
+    (turn (normal_of c.args.path.now) c.args.symbols.now c.turns.states c.turns.rows c.turns.invariant (omega arith) c.row.new.states row made.0 made.1 made.2)

@@ -10,8 +10,8 @@ use Rattle.path_automaton.proofs.exploring.row.Goals as goal
 abbrev none : Symbol
 none = record { loc = 0; fun = None }
 
-pub next-requires : goal.next-requires
-next-requires c = let long = longer c.args.states.now (followers (take c.loop-symbol.symbol-index c.args.symbols.now) (get_or c.args.states.now c.args.state Nothing)) c.loop-symbol.states c.loop-symbol.invariant.noted in let within = c.requires.within in omega arith
+pub follow-requires : goal.follow-requires
+follow-requires c = let long = longer c.args.states.now (followers (take c.loop-symbol.symbol-index c.args.symbols.now) (get_or c.args.states.now c.args.state Nothing)) c.loop-symbol.states c.loop-symbol.invariant.noted in let within = c.requires.within in omega arith
 
 pub returns-then-len-gt-LIMIT : goal.returns-then-len-gt-LIMIT
 returns-then-len-gt-LIMIT c =
@@ -19,10 +19,10 @@ returns-then-len-gt-LIMIT c =
     let form : Path = get_or old c.args.state Nothing in
     let i : ℕ = c.loop-symbol.symbol-index in
     let x : Symbol = get_or c.args.symbols.now i none in
-    let next : c.in_ok-next.next ≡ derivative_of form x = c.in_ok-next.ensures ∙ ap (λ a. derivative_of a x) (stays old (followers (take i c.args.symbols.now) form) c.loop-symbol.states c.args.state c.loop-symbol.invariant.noted c.requires.within) in
-    let new : c.note.new.self ≡ noted c.loop-symbol.states (derivative_of form x) = c.in_ok-place.ensures.noted ∙ ap (λ a. noted c.loop-symbol.states a) next in
+    let same : get_or c.loop-symbol.states c.args.state Nothing ≡ form = stays old (followers (take i c.args.symbols.now) form) c.loop-symbol.states c.args.state c.loop-symbol.invariant.noted c.requires.within in
+    let new : c.follow.new.self ≡ noted c.loop-symbol.states (derivative_of form x) = c.in_ok-place.ensures.noted ∙ ap (λ a. noted c.loop-symbol.states (derivative_of a x)) same in
     let most = noted-length c.loop-symbol.states (derivative_of form x) in
-    let long : length c.note.new.self ≡ length (noted c.loop-symbol.states (derivative_of form x)) = ap length new in
+    let long : length c.follow.new.self ≡ length (noted c.loop-symbol.states (derivative_of form x)) = ap length new in
     let few = c.loop-symbol.invariant.few in
     let len = c.len.ensures in
     let past = c.if-len-gt-LIMIT.true in
@@ -34,10 +34,10 @@ loop-symbol-preserved c =
     let form : Path = get_or old c.args.state Nothing in
     let i : ℕ = c.loop-symbol.symbol-index in
     let x : Symbol = get_or c.args.symbols.now i none in
-    let next : c.in_ok-next.next ≡ derivative_of form x = c.in_ok-next.ensures ∙ ap (λ a. derivative_of a x) (stays old (followers (take i c.args.symbols.now) form) c.loop-symbol.states c.args.state c.loop-symbol.invariant.noted c.requires.within) in
-    let new : c.note.new.self ≡ noted c.loop-symbol.states (derivative_of form x) = c.in_ok-place.ensures.noted ∙ ap (λ a. noted c.loop-symbol.states a) next in
+    let same : get_or c.loop-symbol.states c.args.state Nothing ≡ form = stays old (followers (take i c.args.symbols.now) form) c.loop-symbol.states c.args.state c.loop-symbol.invariant.noted c.requires.within in
+    let new : c.follow.new.self ≡ noted c.loop-symbol.states (derivative_of form x) = c.in_ok-place.ensures.noted ∙ ap (λ a. noted c.loop-symbol.states (derivative_of a x)) same in
     let len = c.len.ensures in
     let past = c.if-len-gt-LIMIT.false in
-    subst (λ (row : List ℕ). IsBegun old form (take (i + 1) c.args.symbols.now) c.note.new.self row) (sym c.in_ok-push.ensures.ok)
-    (subst (λ (l : List Symbol). IsBegun old form l c.note.new.self (c.loop-symbol.places ++ c.in_ok-place.place ∷ [])) (sym (take-next c.args.symbols.now i none c.loop-symbol-test.true))
-    (begun-more old form (take i c.args.symbols.now) c.loop-symbol.states c.loop-symbol.places x c.note.new.self c.in_ok-place.place c.loop-symbol.invariant new (omega arith) (c.in_ok-place.ensures.place ∙ ap Some next)))
+    subst (λ (row : List ℕ). IsBegun old form (take (i + 1) c.args.symbols.now) c.follow.new.self row) (sym c.in_ok-push.ensures.ok)
+    (subst (λ (l : List Symbol). IsBegun old form l c.follow.new.self (c.loop-symbol.places ++ c.in_ok-place.place ∷ [])) (sym (take-next c.args.symbols.now i none c.loop-symbol-test.true))
+    (begun-more old form (take i c.args.symbols.now) c.loop-symbol.states c.loop-symbol.places x c.follow.new.self c.in_ok-place.place c.loop-symbol.invariant new (omega arith) (c.in_ok-place.ensures.place ∙ ap (λ a. Some (derivative_of a x)) same)))

@@ -70,3 +70,10 @@ def topology(locations, links, before=""):
     """The JSON text of a network, with the text of other members in front."""
     text = '{%s"locations":[%s],"links":[%s]}' % (before, ",".join(locations), ",".join(links))
     return text.encode()
+
+
+def one_switch(hosts, before=""):
+    """The JSON text of so many hosts at one switch."""
+    locations = [host(number) for number in range(1, hosts + 1)] + [switch(1)]
+    links = [link("h%d" % number, 1, "s1", number) for number in range(1, hosts + 1)]
+    return topology(locations, links, before)

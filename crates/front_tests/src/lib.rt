@@ -6,6 +6,8 @@ mod networks;
 #[cfg(test)]
 mod outcomes;
 #[cfg(test)]
+mod refuting;
+#[cfg(test)]
 mod results;
 #[cfg(test)]
 mod runs;

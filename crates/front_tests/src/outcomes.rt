@@ -33,6 +33,12 @@ fn wrong_words(rt: HostRuntime) -> Result<(), Fail> {
         "Compile|p|t|shortest",
         "explain|p|t|shortest",
         "p|t|shortest",
+        "refute",
+        "refute|p",
+        "refute|p|t|shortest",
+        "refute|p|t|",
+        "Refute|p|t",
+        "refute |p|t",
     ];
     for line in lines {
         let ran = ran(alloc, line, EVERY_WAY, ONE_SWITCH, &[], &[])?;

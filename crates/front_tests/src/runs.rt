@@ -1,4 +1,4 @@
-//! One run of the program over a policy file `p` and a topology file `t`.
+//! One run of the program over two files, `p` and `t`: a policy and a topology, or a program and a tree.
 
 use merlin::run;
 use merlin_base::{MemoryFiles, MemorySink, Name, Status, name_from};
@@ -31,14 +31,14 @@ fn words(alloc: Global, line: &str) -> Result<Vec<String>, Fail> {
 pub fn ran(
     alloc: Global,
     line: &str,
-    policy: &[u8],
-    topology: &[u8],
+    first: &[u8],
+    second: &[u8],
     failing_files: &[u64],
     failing_writes: &[u64],
 ) -> Result<Ended, Fail> {
     let mut entries: Vec<(Name, Vec<u8>)> = Vec::new(alloc);
-    entries.push((name_from(alloc, b"p")?, Vec::from_slice(alloc, policy)?))?;
-    entries.push((name_from(alloc, b"t")?, Vec::from_slice(alloc, topology)?))?;
+    entries.push((name_from(alloc, b"p")?, Vec::from_slice(alloc, first)?))?;
+    entries.push((name_from(alloc, b"t")?, Vec::from_slice(alloc, second)?))?;
     let mut files = MemoryFiles::new(entries, Vec::from_slice(alloc, failing_files)?);
     let mut out = MemorySink::new(alloc, Vec::from_slice(alloc, failing_writes)?);
     let words = words(alloc, line)?;

@@ -74,28 +74,13 @@ fn limits(alloc: Global, tokens: &[Token]) -> Result<(Items<Limit>, End, &[Token
     'limits: loop {
         let (limit, others) = limit_at(rest)?;
         limits.push(limit)?;
-        match others {
-            [
-                Token {
-                    kind: Kind::Word(Word::And),
-                    ..
-                },
-                others @ ..,
-            ] => rest = others,
-            [
-                Token {
-                    kind: Kind::Sign(Sign::Semicolon),
-                    ..
-                },
-                others @ ..,
-            ] => return Ok((limits, End::Item, others)),
-            [
-                Token {
-                    kind: Kind::Sign(Sign::CloseList),
-                    ..
-                },
-                others @ ..,
-            ] => return Ok((limits, End::List, others)),
+        let [first, after @ ..] = others else {
+            return Err(ReadError::Syntax(0));
+        };
+        match first.kind {
+            Kind::Word(Word::And) => rest = after,
+            Kind::Sign(Sign::Semicolon) => return Ok((limits, End::Item, after)),
+            Kind::Sign(Sign::CloseList) => return Ok((limits, End::List, after)),
             _ => return Err(ReadError::Syntax(others.len())),
         }
     }
@@ -110,28 +95,13 @@ fn statement_end(
         Goes result (λ r. run (lexemes bytes r.2.now) (ended r.1 (closed (opened h pred path r.0)))) (run (lexemes bytes tokens.now) (at (whole_path path ∷ statement_path h pred ∷ []) n)) }
     ensures shorter { IfOk result (λ r. length r.2.now < length tokens.now) }
 {
-    match tokens {
-        [
-            Token {
-                kind: Kind::Word(Word::At),
-                ..
-            },
-            rest @ ..,
-        ] => limits(alloc, rest),
-        [
-            Token {
-                kind: Kind::Sign(Sign::Semicolon),
-                ..
-            },
-            rest @ ..,
-        ] => Ok((Items::new(alloc), End::Item, rest)),
-        [
-            Token {
-                kind: Kind::Sign(Sign::CloseList),
-                ..
-            },
-            rest @ ..,
-        ] => Ok((Items::new(alloc), End::List, rest)),
+    let [first, rest @ ..] = tokens else {
+        return Err(ReadError::Syntax(0));
+    };
+    match first.kind {
+        Kind::Word(Word::At) => limits(alloc, rest),
+        Kind::Sign(Sign::Semicolon) => Ok((Items::new(alloc), End::Item, rest)),
+        Kind::Sign(Sign::CloseList) => Ok((Items::new(alloc), End::List, rest)),
         _ => Err(ReadError::Syntax(tokens.len())),
     }
 }
@@ -303,35 +273,14 @@ fn entry_of<'a>(
         Goes result (λ r. run (lexemes bytes.now r.1.now) (after_entry r.0 h)) (run (lexemes bytes.now tokens.now) (at (item h ∷ []) 0)) }
     ensures shorter { IfOk result (λ r. length r.1.now < length tokens.now) }
 {
-    match tokens {
-        [
-            Token {
-                kind: Kind::Name,
-                span,
-            },
-            rest @ ..,
-        ] => plain(alloc, text(bytes, *span), bytes, rest),
-        [
-            Token {
-                kind: Kind::Word(Word::Foreach),
-                ..
-            },
-            rest @ ..,
-        ] => for_each(alloc, bytes, rest),
-        [
-            Token {
-                kind: Kind::Word(Word::Default),
-                ..
-            },
-            rest @ ..,
-        ] => default_path(alloc, bytes, rest),
-        [
-            Token {
-                kind: Kind::Sign(Sign::CloseList),
-                ..
-            },
-            rest @ ..,
-        ] => Ok((Entry::End, rest)),
+    let [first, rest @ ..] = tokens else {
+        return Err(ReadError::Syntax(0));
+    };
+    match first.kind {
+        Kind::Name => plain(alloc, text(bytes, first.span), bytes, rest),
+        Kind::Word(Word::Foreach) => for_each(alloc, bytes, rest),
+        Kind::Word(Word::Default) => default_path(alloc, bytes, rest),
+        Kind::Sign(Sign::CloseList) => Ok((Entry::End, rest)),
         _ => Err(ReadError::Syntax(tokens.len())),
     }
 }

@@ -22,21 +22,12 @@ fn literal_at(tokens: &[Token]) -> Result<(Literal, &[Token]), ReadError>
         Goes result (λ r. run (lexemes bytes r.1.now) (at (set_rest ss name (ls ++ r.0 ∷ []) ∷ []) 0)) (run (lexemes bytes tokens.now) (at (set_more ss name ls ∷ []) 0)) }
     ensures shorter { IfOk result (λ r. length r.1.now < length tokens.now) }
 {
-    match tokens {
-        [
-            Token {
-                kind: Kind::Mac(mac),
-                ..
-            },
-            rest @ ..,
-        ] => Ok((Literal::Mac(*mac), rest)),
-        [
-            Token {
-                kind: Kind::Ip(ip),
-                ..
-            },
-            rest @ ..,
-        ] => Ok((Literal::Ip(*ip), rest)),
+    let [first, rest @ ..] = tokens else {
+        return Err(ReadError::Syntax(0));
+    };
+    match first.kind {
+        Kind::Mac(mac) => Ok((Literal::Mac(mac), rest)),
+        Kind::Ip(ip) => Ok((Literal::Ip(ip), rest)),
         _ => Err(ReadError::Syntax(tokens.len())),
     }
 }
@@ -62,21 +53,12 @@ fn literals(alloc: Global, tokens: &[Token]) -> Result<(Items<Literal>, &[Token]
     'literals: loop {
         let (literal, others) = literal_at(rest)?;
         literals.push(literal)?;
-        match others {
-            [
-                Token {
-                    kind: Kind::Sign(Sign::Comma),
-                    ..
-                },
-                others @ ..,
-            ] => rest = others,
-            [
-                Token {
-                    kind: Kind::Sign(Sign::CloseSet),
-                    ..
-                },
-                others @ ..,
-            ] => return Ok((literals, others)),
+        let [first, after @ ..] = others else {
+            return Err(ReadError::Syntax(0));
+        };
+        match first.kind {
+            Kind::Sign(Sign::Comma) => rest = after,
+            Kind::Sign(Sign::CloseSet) => return Ok((literals, after)),
             _ => return Err(ReadError::Syntax(others.len())),
         }
     }
@@ -104,26 +86,17 @@ pub(crate) fn sets<'a>(
     let mut sets = Items::new(alloc);
     let mut rest = tokens;
     'sets: loop {
-        match rest {
-            [
-                Token {
-                    kind: Kind::Name,
-                    span,
-                },
-                others @ ..,
-            ] => {
-                let name = name_from(alloc, text(bytes, *span))?;
+        let [first, others @ ..] = rest else {
+            return Err(ReadError::Syntax(0));
+        };
+        match first.kind {
+            Kind::Name => {
+                let name = name_from(alloc, text(bytes, first.span))?;
                 let (literals, others) = set_after(alloc, others)?;
                 sets.push(WrittenSet { name, literals })?;
                 rest = others;
             }
-            [
-                Token {
-                    kind: Kind::Sign(Sign::OpenList),
-                    ..
-                },
-                others @ ..,
-            ] => return Ok((sets, others)),
+            Kind::Sign(Sign::OpenList) => return Ok((sets, others)),
             _ => return Err(ReadError::Syntax(rest.len())),
         }
     }

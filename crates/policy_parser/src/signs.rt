@@ -126,21 +126,12 @@ pub(crate) fn bound_at(tokens: &[Token]) -> Result<(Bound, &[Token]), ReadError>
         Goes result (λ r. run (lexemes bytes r.1.now) (at (this_sign signs.OpenGroup ∷ leading w r.0 [] ∷ []) 0)) (run (lexemes bytes tokens.now) (at (term w ∷ []) 0)) }
     ensures shorter { IfOk result (λ r. length r.1.now < length tokens.now) }
 {
-    match tokens {
-        [
-            Token {
-                kind: Kind::Word(Word::Max),
-                ..
-            },
-            rest @ ..,
-        ] => Ok((Bound::Max, rest)),
-        [
-            Token {
-                kind: Kind::Word(Word::Min),
-                ..
-            },
-            rest @ ..,
-        ] => Ok((Bound::Min, rest)),
+    let [first, rest @ ..] = tokens else {
+        return Err(ReadError::Syntax(0));
+    };
+    match first.kind {
+        Kind::Word(Word::Max) => Ok((Bound::Max, rest)),
+        Kind::Word(Word::Min) => Ok((Bound::Min, rest)),
         _ => Err(ReadError::Syntax(tokens.len())),
     }
 }

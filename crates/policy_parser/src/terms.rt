@@ -33,25 +33,16 @@ fn leading_part<'a>(
     let mut parts = Items::new(alloc);
     let mut rest = tokens;
     'rates: loop {
-        match rest {
-            [
-                Token {
-                    kind: Kind::Rate(rate),
-                    ..
-                },
-                others @ ..,
-            ] => {
-                parts.push(Part::Constant(*rate))?;
+        let [first, others @ ..] = rest else {
+            return Err(ReadError::Syntax(0));
+        };
+        match first.kind {
+            Kind::Rate(rate) => {
+                parts.push(Part::Constant(rate))?;
                 rest = sign_at(Sign::Plus, others)?;
             }
-            [
-                Token {
-                    kind: Kind::Name,
-                    span,
-                },
-                others @ ..,
-            ] => {
-                parts.push(Part::Id(name_from(alloc, text(bytes, *span))?))?;
+            Kind::Name => {
+                parts.push(Part::Id(name_from(alloc, text(bytes, first.span))?))?;
                 return Ok((parts, others));
             }
             _ => return Err(ReadError::Syntax(rest.len())),
@@ -69,21 +60,12 @@ fn summand_at<'a>(
         Goes result (λ r. run (lexemes bytes.now r.1.now) (at (sum_rest w b (parts ++ r.0 ∷ []) ∷ []) 0)) (run (lexemes bytes.now tokens.now) (at (summand w b parts ∷ []) 0)) }
     ensures shorter { IfOk result (λ r. length r.1.now < length tokens.now) }
 {
-    match tokens {
-        [
-            Token {
-                kind: Kind::Rate(rate),
-                ..
-            },
-            rest @ ..,
-        ] => Ok((Part::Constant(*rate), rest)),
-        [
-            Token {
-                kind: Kind::Name,
-                span,
-            },
-            rest @ ..,
-        ] => Ok((Part::Id(name_from(alloc, text(bytes, *span))?), rest)),
+    let [first, rest @ ..] = tokens else {
+        return Err(ReadError::Syntax(0));
+    };
+    match first.kind {
+        Kind::Rate(rate) => Ok((Part::Constant(rate), rest)),
+        Kind::Name => Ok((Part::Id(name_from(alloc, text(bytes, first.span))?), rest)),
         _ => Err(ReadError::Syntax(tokens.len())),
     }
 }
@@ -100,25 +82,16 @@ fn sum<'a>(
 {
     let (mut parts, mut rest) = leading_part(alloc, bytes, tokens)?;
     'summands: loop {
-        match rest {
-            [
-                Token {
-                    kind: Kind::Sign(Sign::Plus),
-                    ..
-                },
-                others @ ..,
-            ] => {
+        let [first, others @ ..] = rest else {
+            return Err(ReadError::Syntax(0));
+        };
+        match first.kind {
+            Kind::Sign(Sign::Plus) => {
                 let (part, others) = summand_at(alloc, bytes, others)?;
                 parts.push(part)?;
                 rest = others;
             }
-            [
-                Token {
-                    kind: Kind::Sign(Sign::Comma),
-                    ..
-                },
-                others @ ..,
-            ] => return Ok((parts, others)),
+            Kind::Sign(Sign::Comma) => return Ok((parts, others)),
             _ => return Err(ReadError::Syntax(rest.len())),
         }
     }

@@ -5,7 +5,7 @@ use Rattle.policy_parser.specs.Goes.{Goes, after_entry}
 use Rattle.policy_parser.proofs.Firsts.{each_awaited, each_fed}
 use Rattle.policy_parser.proofs.items.entry_of.Goals as goal
 
-pub returns-in-Word-clause-goes : goal.returns-in-Word-clause-goes
-returns-in-Word-clause-goes c = λ h.
+pub returns-in-Word-Foreach-clause-goes : goal.returns-in-Word-Foreach-clause-goes
+returns-in-Word-Foreach-clause-goes c = λ h.
     let e : run (lexemes c.args.bytes.now c.args.tokens.now) (at (item h ∷ []) 0) ≡ run (lexemes c.args.bytes.now (take (length c.args.tokens.now - 1) (drop 1 c.args.tokens.now))) (each_awaited h) = search (rules, each_fed) in
     subst (λ r. Goes c.for_each.result (λ r. run (lexemes c.args.bytes.now r.1.now) (after_entry r.0 h)) r) (sym e) (c.for_each.ensures.goes h)

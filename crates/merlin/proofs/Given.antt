@@ -7,17 +7,19 @@ use Rattle.merlin_base.specs.declared.status.Status.TheVariants as status
 use Rattle.merlin_model.specs.Networks.{Network}
 use Rattle.merlin_model.specs.declared.policy.Objective.{Objective}
 use Rattle.topology.specs.Format.{IsTopology, IsTopologyOf}
+use Rattle.policy_parser.specs.declared.fault.PolicyFault.TheVariants as faults
 use Rattle.merlin.specs.Command.{Form, Compiling, Refuting, IsForm, files_of}
-use Rattle.merlin.specs.Compile.{IsPlainPolicy}
+use Rattle.merlin.specs.Compile.{plain_policy, IsPlainPolicy}
 use Rattle.merlin.specs.Reading.{AreContents, IsFirstTooLong}
 use Rattle.merlin.specs.Answer.{StopsCompile, Compiles, Checks, Answers, IsAsked, IsReply, IsAnswer}
 use Rattle.merlin.specs.Report.{status_of}
 use Rattle.merlin.specs.Outcome.{IsGiven, IsTooLong, Succeeds, Stops, FallsShort}
 use Rattle.merlin.specs.declared.answer.Refusal.{Refusal}
-use Rattle.merlin.specs.declared.answer.Refusal.TheVariants.{TopologyJson, Unbuilt, BadProgram, BadTree}
+use Rattle.merlin.specs.declared.answer.Refusal.TheVariants.{PolicyByte, PolicyNumber, PolicySyntax, DuplicateSet, MixedSet, UnknownSet, TooManyStatements, DuplicateId, TopologyJson, Unbuilt, BadProgram, BadTree}
 use Rattle.merlin.specs.declared.answer.Answer.{Answer}
 use Rattle.merlin.specs.declared.answer.Answer.TheVariants.{Usage, ReadFault, TooLong, Refused, Done, Refuted, NotRefuted}
 use Rattle.merlin.proofs.Unique.{IsForm-same, AreContents-same, AreContents-short}
+use Rattle.merlin.proofs.Policies.{not_refused, not_other}
 use Rattle.merlin.proofs.Trees.{Checks-Done, Checks-CheckNo, Checks-Refused}
 
 Some-inj : {X : Type 0} {x y : X} → Some x ≡ Some y → x ≡ y
@@ -25,8 +27,16 @@ Some-inj {x = x} e = ap (λ o. unwrap_or o x) e
 
 -- What is refused stands for nothing that is built.
 stops_not : (refusal : Refusal) (policy topology : List ℕ) (net : Network) → IsPlainPolicy policy → IsTopology topology net → StopsCompile refusal policy topology → ⊥
+stops_not (PolicyByte place) policy topology net plain network stops = not_refused policy plain_policy (faults.BadByte place) (λ e. cc) plain stops
+stops_not (PolicyNumber place) policy topology net plain network stops = not_refused policy plain_policy (faults.BadNumber place) (λ e. cc) plain stops
+stops_not (PolicySyntax place) policy topology net plain network stops = not_refused policy plain_policy (faults.Syntax place) (λ e. cc) plain stops
+stops_not (DuplicateSet name) policy topology net plain network stops = not_refused policy plain_policy (faults.DuplicateSet name) (λ e. cc) plain stops
+stops_not (MixedSet name) policy topology net plain network stops = not_refused policy plain_policy (faults.MixedSet name) (λ e. cc) plain stops
+stops_not (UnknownSet name) policy topology net plain network stops = not_refused policy plain_policy (faults.UnknownSet name) (λ e. cc) plain stops
+stops_not TooManyStatements policy topology net plain network stops = not_refused policy plain_policy (faults.TooManyStatements stops.0) (λ e. cc) plain stops.1
+stops_not (DuplicateId id) policy topology net plain network stops = not_refused policy plain_policy (faults.DuplicateId id) (λ e. cc) plain stops
 stops_not TopologyJson policy topology net plain network stops = stops.1 network.0 network.1
-stops_not Unbuilt policy topology net plain network (inl other) = other plain
+stops_not Unbuilt policy topology net plain network (inl other) = not_other policy plain other
 stops_not Unbuilt policy topology net plain network (inr none) =
     let same : network.0 ≡ none.1.0 = Some-inj (sym network.1.1 ∙ none.1.1.1) in
     none.1.2 net (subst (λ d. IsTopologyOf d net) same network.2)

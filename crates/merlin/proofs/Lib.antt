@@ -1,6 +1,7 @@
 pub mod Words
 pub mod Parts
 pub mod Trees
+pub mod Policies
 pub mod Outcomes
 pub mod Unique
 pub mod Given

@@ -9,7 +9,7 @@ use Rattle.merlin.specs.Answer.{StopsRefute, Checks}
 use Rattle.merlin.specs.Refute.{IsProgram, IsTree, AreRead}
 use Rattle.merlin.specs.Report.{status_of}
 use Rattle.merlin.specs.declared.answer.Refusal.{Refusal}
-use Rattle.merlin.specs.declared.answer.Refusal.TheVariants.{TopologyJson, Unbuilt, BadProgram, BadTree}
+use Rattle.merlin.specs.declared.answer.Refusal.TheVariants.{PolicyByte, PolicyNumber, PolicySyntax, DuplicateSet, MixedSet, UnknownSet, TooManyStatements, DuplicateId, TopologyJson, Unbuilt, BadProgram, BadTree}
 use Rattle.merlin.specs.declared.answer.Answer.{Answer}
 use Rattle.merlin.specs.declared.answer.Answer.TheVariants.{Usage, ReadFault, TooLong, Refused, Done, Refuted, NotRefuted}
 
@@ -29,6 +29,14 @@ fails_not program tree box k fails refutes = fails.fails (at _ (nodes_of tree bo
 stops_not : (refusal : Refusal) (p t : List ℕ) (program : Program) (tree : Tree) → IsProgram p program → IsTree t tree → StopsRefute refusal p t → ⊥
 stops_not (BadProgram place) p t program tree is_program is_tree wrong = wrong.none program is_program.0 is_program.1
 stops_not (BadTree place) p t program tree is_program is_tree wrong = wrong.1.none tree is_tree.0 is_tree.1
+stops_not (PolicyByte place) p t program tree is_program is_tree wrong = wrong
+stops_not (PolicyNumber place) p t program tree is_program is_tree wrong = wrong
+stops_not (PolicySyntax place) p t program tree is_program is_tree wrong = wrong
+stops_not (DuplicateSet name) p t program tree is_program is_tree wrong = wrong
+stops_not (MixedSet name) p t program tree is_program is_tree wrong = wrong
+stops_not (UnknownSet name) p t program tree is_program is_tree wrong = wrong
+stops_not TooManyStatements p t program tree is_program is_tree wrong = wrong
+stops_not (DuplicateId id) p t program tree is_program is_tree wrong = wrong
 stops_not TopologyJson p t program tree is_program is_tree wrong = wrong
 stops_not Unbuilt p t program tree is_program is_tree wrong = wrong
 

@@ -4,6 +4,7 @@ use Rattle.merlin_base.specs.Outside.{Told}
 use Rattle.merlin_model.specs.Programs.{Program}
 use Rattle.merlin_model.specs.declared.policy.Objective.{Objective}
 use Rattle.config_text.specs.Lines.{IsOver}
+use Rattle.policy_parser.specs.declared.fault.PolicyFault.TheVariants as faults
 use Rattle.topology.specs.declared.fault.NetFault.TheVariants as net
 use Rattle.certificate_text.specs.Faults.{IsFirstWrongLine}
 use Rattle.certificate_text.specs.ProgramTexts.{program_text, IsProgramText}
@@ -14,12 +15,20 @@ use Rattle.merlin.specs.Compile.{IsCompiledFrom, Refuses}
 use Rattle.merlin.specs.Refute.{IsProgram, IsRefuted, IsNotRefuted}
 use Rattle.merlin.specs.declared.compile.EarlyFault.TheVariants as early
 use Rattle.merlin.specs.declared.answer.Refusal.{Refusal}
-use Rattle.merlin.specs.declared.answer.Refusal.TheVariants.{TopologyJson, Unbuilt, BadProgram, BadTree}
+use Rattle.merlin.specs.declared.answer.Refusal.TheVariants.{PolicyByte, PolicyNumber, PolicySyntax, DuplicateSet, MixedSet, UnknownSet, TooManyStatements, DuplicateId, TopologyJson, Unbuilt, BadProgram, BadTree}
 use Rattle.merlin.specs.declared.answer.Answer.{Answer}
 use Rattle.merlin.specs.declared.answer.Answer.TheVariants.{Usage, ReadFault, TooLong, Refused, Done, Refuted, NotRefuted}
 
 -- why nothing is compiled from a policy and a topology
 abbrev pub StopsCompile : Refusal → List ℕ → List ℕ → Type 0
+StopsCompile (PolicyByte at) policy topology = Refuses (early.Policy (faults.BadByte at)) policy topology
+StopsCompile (PolicyNumber at) policy topology = Refuses (early.Policy (faults.BadNumber at)) policy topology
+StopsCompile (PolicySyntax at) policy topology = Refuses (early.Policy (faults.Syntax at)) policy topology
+StopsCompile (DuplicateSet name) policy topology = Refuses (early.Policy (faults.DuplicateSet name)) policy topology
+StopsCompile (MixedSet name) policy topology = Refuses (early.Policy (faults.MixedSet name)) policy topology
+StopsCompile (UnknownSet name) policy topology = Refuses (early.Policy (faults.UnknownSet name)) policy topology
+StopsCompile TooManyStatements policy topology = (count : ℕ) × Refuses (early.Policy (faults.TooManyStatements count)) policy topology
+StopsCompile (DuplicateId id) policy topology = Refuses (early.Policy (faults.DuplicateId id)) policy topology
 StopsCompile TopologyJson policy topology = Refuses (early.Net net.Json) policy topology
 StopsCompile Unbuilt policy topology = Refuses early.Unbuilt policy topology ⊎ Refuses (early.Net net.Unbuilt) policy topology
 StopsCompile (BadProgram at) policy topology = ⊥
@@ -29,8 +38,7 @@ StopsCompile (BadTree at) policy topology = ⊥
 abbrev pub StopsRefute : Refusal → List ℕ → List ℕ → Type 0
 StopsRefute (BadProgram at) program tree = IsFirstWrongLine program_text IsProgramText program at
 StopsRefute (BadTree at) program tree = ((stated : Program) × IsProgram program stated) × IsFirstWrongLine tree_text IsTreeText tree at
-StopsRefute TopologyJson program tree = ⊥
-StopsRefute Unbuilt program tree = ⊥
+StopsRefute refusal program tree = ⊥
 
 -- the answer to a policy and a topology
 abbrev pub Compiles : Objective → List ℕ → List ℕ → Answer → Type 0

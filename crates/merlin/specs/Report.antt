@@ -12,7 +12,7 @@ use Rattle.config_text.specs.Words.{words, line}
 use Rattle.config_text.specs.Result.{objective_word, value_text, result_lines}
 use Rattle.merlin.specs.declared.compile.Compiled.{Compiled}
 use Rattle.merlin.specs.declared.answer.Refusal.{Refusal}
-use Rattle.merlin.specs.declared.answer.Refusal.TheVariants.{TopologyJson, Unbuilt, BadProgram, BadTree}
+use Rattle.merlin.specs.declared.answer.Refusal.TheVariants.{PolicyByte, PolicyNumber, PolicySyntax, DuplicateSet, MixedSet, UnknownSet, TooManyStatements, DuplicateId, TopologyJson, Unbuilt, BadProgram, BadTree}
 use Rattle.merlin.specs.declared.answer.Answer.{Answer}
 use Rattle.merlin.specs.declared.answer.Answer.TheVariants.{Usage, ReadFault, TooLong, Refused, Done, Refuted, NotRefuted}
 
@@ -33,6 +33,14 @@ abbrev pub compiled_lines : Compiled → List (List ℕ)
 compiled_lines c = result_lines c.net c.objective c.value [] c.config (cutoff_leaf c.net)
 
 abbrev pub refusal_text : Refusal → List ℕ
+refusal_text (PolicyByte at) = codes "refused: policy byte at " ++ decimal at
+refusal_text (PolicyNumber at) = codes "refused: policy number at " ++ decimal at
+refusal_text (PolicySyntax at) = codes "refused: policy syntax at " ++ decimal at
+refusal_text (DuplicateSet name) = codes "refused: duplicate set " ++ name
+refusal_text (MixedSet name) = codes "refused: mixed set " ++ name
+refusal_text (UnknownSet name) = codes "refused: unknown set " ++ name
+refusal_text TooManyStatements = codes "refused: more than 4096 statements"
+refusal_text (DuplicateId id) = codes "refused: duplicate id " ++ id
 refusal_text TopologyJson = codes "refused: topology json"
 refusal_text Unbuilt = codes "refused: unbuilt"
 refusal_text (BadProgram at) = codes "refused: program at " ++ decimal at

@@ -2,9 +2,18 @@
 use crate::compile::Compiled;
 use merlin_base::Name;
 
-/// Why a command is refused, after its files were read. A wrong line is named by the place where it starts.
-#[derive(Clone, Copy)]
+/// Why a command is refused, after its files were read. What is wrong in a policy is named by its place or its name, a wrong line by
+/// the place where it starts.
+#[derive(Drop)]
 pub enum Refusal {
+    PolicyByte(usize),
+    PolicyNumber(usize),
+    PolicySyntax(usize),
+    DuplicateSet(Name),
+    MixedSet(Name),
+    UnknownSet(Name),
+    TooManyStatements,
+    DuplicateId(Name),
     TopologyJson,
     Unbuilt,
     BadProgram(usize),

@@ -1,7 +1,9 @@
 // From the words of a command and its files to an answer.
-ghost use Rattle.std.specs.Prelude.{IfOk};
+ghost use Rattle.std.specs.Prelude.{IfOk, List, ℕ};
 ghost use Rattle.merlin.specs.Command.{texts, Compiling, Refuting};
-ghost use Rattle.merlin.specs.Answer.{Compiles, IsPrintable};
+ghost use Rattle.merlin.specs.Answer.{Compiles, IsPrintable, StopsCompile};
+ghost use Rattle.merlin.specs.Compile.{Refuses};
+ghost use Rattle.merlin.specs.declared.compile.EarlyFault.TheVariants as early;
 ghost use Rattle.merlin.specs.Parts.{Tells, IsAnswerTo, IsAnswered};
 
 use crate::answer::{Answer, Refusal};
@@ -11,6 +13,7 @@ use crate::reading::{Unread, Wanted, read_two};
 use crate::refute::check_tree;
 use merlin_base::{Files, OutOfMemory};
 use merlin_model::policy::Objective;
+use policy_parser::PolicyFault;
 use std::alloc::Global;
 use topology::NetFault;
 
@@ -19,6 +22,23 @@ const TEXT_LIMIT: usize = 16_777_216;
 
 /// The most bytes of a tree.
 const TREE_LIMIT: usize = 1_610_612_736;
+
+// The refusal of a policy with this fault.
+fn policy_refusal(fault: PolicyFault) -> Result<Refusal, OutOfMemory>
+    ensures { IfOk result (λ refusal. (policy topology : List ℕ) → Refuses (early.Policy fault) policy topology → StopsCompile refusal policy topology) }
+{
+    match fault {
+        PolicyFault::BadByte { at } => Ok(Refusal::PolicyByte(at)),
+        PolicyFault::BadNumber { at } => Ok(Refusal::PolicyNumber(at)),
+        PolicyFault::Syntax { at } => Ok(Refusal::PolicySyntax(at)),
+        PolicyFault::DuplicateSet { name } => Ok(Refusal::DuplicateSet(name)),
+        PolicyFault::MixedSet { name } => Ok(Refusal::MixedSet(name)),
+        PolicyFault::UnknownSet { name } => Ok(Refusal::UnknownSet(name)),
+        PolicyFault::TooManyStatements { count: _ } => Ok(Refusal::TooManyStatements),
+        PolicyFault::DuplicateId { id } => Ok(Refusal::DuplicateId(id)),
+        PolicyFault::OutOfMemory => Err(OutOfMemory),
+    }
+}
 
 // What is answered to a policy and a topology.
 fn compile_texts(
@@ -31,6 +51,7 @@ fn compile_texts(
 {
     match compile_policy(alloc, policy, topology, objective) {
         Ok(compiled) => Ok(Answer::Done(compiled)),
+        Err(EarlyFault::Policy(fault)) => Ok(Answer::Refused(policy_refusal(fault)?)),
         Err(EarlyFault::Net(NetFault::Json)) => Ok(Answer::Refused(Refusal::TopologyJson)),
         Err(EarlyFault::Net(NetFault::Unbuilt) | EarlyFault::Unbuilt) => {
             Ok(Answer::Refused(Refusal::Unbuilt))

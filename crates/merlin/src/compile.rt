@@ -1,15 +1,16 @@
 // From the bytes of a policy and a topology to a result.
-ghost use Rattle.std.specs.Prelude.{◌≡◌, [], IfOk, IfErr, IsTrue, ◌↔◌};
+ghost use Rattle.std.specs.Prelude.{◌≡◌, [], ℕ, List, IfOk, IfErr, OnOk, IsTrue, ◌↔◌};
 ghost use Rattle.config_text.specs.Lines.{IsOver};
 ghost use Rattle.merlin_model.specs.Assignments.{value_of};
 ghost use Rattle.rules_model.specs.Plain.{any_path_policy};
-ghost use Rattle.merlin.specs.Compile.{IsPlainPolicy, IsCompiledFrom, Refuses};
+ghost use Rattle.merlin.specs.Compile.{every_way, plain_policy, IsPlainPolicy, IsCompiledFrom, Refuses, early_of};
 ghost use Rattle.merlin.specs.declared.compile.EarlyFault.TheVariants as early;
 
 use config_text::Config;
 use merlin_base::OutOfMemory as NoMemory;
 use merlin_model::policy::{Objective, Value};
 use plain_compile::configuration_of;
+use policy_parser::{Policy, PolicyFault, RawPath, parse};
 use std::alloc::Global;
 use topology::{NetFault, Topology, read};
 
@@ -23,11 +24,23 @@ pub struct Compiled {
 }
 
 /// Why nothing is compiled. `Unbuilt`: the policy asks for what is not built yet.
-#[derive(Clone, Copy)]
+#[derive(Drop)]
 pub enum EarlyFault {
+    Policy(PolicyFault),
     Net(NetFault),
     Unbuilt,
     OutOfMemory,
+}
+
+impl From<PolicyFault> for EarlyFault {
+    ghost from_gives = { λ fault gives. gives ≡ early_of fault };
+
+    fn from(fault: PolicyFault) -> Self {
+        match fault {
+            PolicyFault::OutOfMemory => EarlyFault::OutOfMemory,
+            fault => EarlyFault::Policy(fault),
+        }
+    }
 }
 
 impl From<NetFault> for EarlyFault {
@@ -46,10 +59,38 @@ impl From<NoMemory> for EarlyFault {
     }
 }
 
-fn is_plain_policy(text: &[u8]) -> bool
-    ensures { IsTrue result ↔ IsPlainPolicy text.now }
+// Whether a path is `.*`.
+fn is_every_way(path: &RawPath) -> bool
+    ensures { IsTrue result ↔ (path.now ≡ every_way) }
 {
-    text == b"[ default -> .* ]".as_slice() || text == b"[ default -> .* ]\n".as_slice()
+    match path {
+        RawPath::Star(inner) => matches!(inner.get(), RawPath::Dot),
+        _ => false,
+    }
+}
+
+// Whether the policy is the one that is built.
+fn is_plain(policy: &Policy) -> bool
+    ensures { IsTrue result ↔ (policy.now ≡ plain_policy) }
+{
+    let is_every_way = match &policy.default_path {
+        Some(path) => is_every_way(path),
+        None => false,
+    };
+    is_every_way && policy.statements.is_empty() && policy.formula.terms.is_empty()
+}
+
+// Reads the policy that is built.
+fn read_plain(alloc: Global, text: &[u8]) -> Result<(), EarlyFault>
+    ensures ok { OnOk result (IsPlainPolicy text.now) }
+    ensures err { IfErr result (λ fault. (topology : List ℕ) → Refuses fault text.now topology) }
+{
+    let policy = parse(alloc, text)?;
+    if is_plain(&policy) {
+        Ok(())
+    } else {
+        Err(EarlyFault::Unbuilt)
+    }
 }
 
 // No load of the capacity of the first link, or of 1 without links.
@@ -77,7 +118,8 @@ fn empty_value(net: &Topology, objective: Objective) -> Value
 /// What the policy compiles to over the topology, for an objective.
 ///
 /// # Errors
-/// The first of: `Unbuilt` where the policy is not the one that allows every way; what `read` says of the topology.
+/// The first of: what `parse` says of the policy; `Unbuilt` where it has a statement, a term, no default or one that does not allow every
+/// way; what `read` says of the topology.
 pub fn compile_policy(
     alloc: Global,
     policy: &[u8],
@@ -88,9 +130,7 @@ pub fn compile_policy(
     ensures err { IfErr result (λ fault. Refuses fault policy.now topology.now) }
     ensures over { IfOk result (λ compiled. IsOver compiled.net compiled.config) }
 {
-    if !is_plain_policy(policy) {
-        return Err(EarlyFault::Unbuilt);
-    }
+    read_plain(alloc, policy)?;
     let net = read(alloc, topology)?;
     let value = empty_value(&net, objective);
     let config = configuration_of(alloc, &net)?;

@@ -82,25 +82,45 @@ fn result_of(alloc: Global, compiled: &Compiled) -> Result<Vec<Name>, OutOfMemor
 const USAGE: &str =
     "usage: compile POLICY TOPOLOGY shortest|ratio|reserved [BUDGET]; check POLICY TOPOLOGY RESULT; trace TOPOLOGY RESULT HOST PACKET; refine PARENT CHILD TOPOLOGY; refute PROGRAM TREE; grow N";
 
-fn refusal_line(alloc: Global, refusal: Refusal) -> Result<Name, OutOfMemory>
-    ensures { IfOk result (λ name. name ≡ line_text (refusal_text refusal)) }
+// The text with a name after it, and a newline.
+fn named(alloc: Global, text: &str, name: &Name) -> Result<Name, OutOfMemory>
+    ensures { IfOk result (λ line. line ≡ line_text (text.now ++ name.now)) }
+{
+    let mut line = Vec::from_slice(alloc, text.as_bytes())?;
+    line.extend_from_slice(name.bytes())?;
+    line.push(b'\n')?;
+    name_from(alloc, &line)
+}
+
+// The text with a place after it, and a newline.
+fn placed(alloc: Global, text: &str, at: usize) -> Result<Name, OutOfMemory>
+    ensures { IfOk result (λ line. line ≡ line_text (text.now ++ decimal at)) }
+{
+    let text = format!(in alloc; "{text}{at}")?;
+    line(alloc, &text)
+}
+
+fn refusal_line(alloc: Global, refusal: &Refusal) -> Result<Name, OutOfMemory>
+    ensures { IfOk result (λ name. name ≡ line_text (refusal_text refusal.now)) }
 {
     match refusal {
+        Refusal::PolicyByte(at) => placed(alloc, "refused: policy byte at ", *at),
+        Refusal::PolicyNumber(at) => placed(alloc, "refused: policy number at ", *at),
+        Refusal::PolicySyntax(at) => placed(alloc, "refused: policy syntax at ", *at),
+        Refusal::DuplicateSet(name) => named(alloc, "refused: duplicate set ", name),
+        Refusal::MixedSet(name) => named(alloc, "refused: mixed set ", name),
+        Refusal::UnknownSet(name) => named(alloc, "refused: unknown set ", name),
+        Refusal::TooManyStatements => line(alloc, "refused: more than 4096 statements"),
+        Refusal::DuplicateId(id) => named(alloc, "refused: duplicate id ", id),
         Refusal::TopologyJson => line(alloc, "refused: topology json"),
         Refusal::Unbuilt => line(alloc, "refused: unbuilt"),
-        Refusal::BadProgram(at) => {
-            let text = format!(in alloc; "refused: program at {at}")?;
-            line(alloc, &text)
-        }
-        Refusal::BadTree(at) => {
-            let text = format!(in alloc; "refused: tree at {at}")?;
-            line(alloc, &text)
-        }
+        Refusal::BadProgram(at) => placed(alloc, "refused: program at ", *at),
+        Refusal::BadTree(at) => placed(alloc, "refused: tree at ", *at),
     }
 }
 
-fn refusal(alloc: Global, refusal: Refusal) -> Result<Vec<Name>, OutOfMemory>
-    ensures { IfOk result (λ lines. lines.items ≡ line_text (refusal_text refusal) ∷ []) }
+fn refusal(alloc: Global, refusal: &Refusal) -> Result<Vec<Name>, OutOfMemory>
+    ensures { IfOk result (λ lines. lines.items ≡ line_text (refusal_text refusal.now) ∷ []) }
 {
     let mut lines = Vec::new(alloc);
     lines.push(refusal_line(alloc, refusal)?)?;
@@ -126,11 +146,8 @@ fn one_line(alloc: Global, text: &str) -> Result<Vec<Name>, OutOfMemory>
 fn too_long(alloc: Global, name: &Name) -> Result<Vec<Name>, OutOfMemory>
     ensures { IfOk result (λ lines. lines.items ≡ line_text (codes "refused: too long " ++ name.now) ∷ []) }
 {
-    let mut text = Vec::from_slice(alloc, b"refused: too long ")?;
-    text.extend_from_slice(name.bytes())?;
-    text.push(b'\n')?;
     let mut lines = Vec::new(alloc);
-    lines.push(name_from(alloc, &text)?)?;
+    lines.push(named(alloc, "refused: too long ", name)?)?;
     Ok(lines)
 }
 
@@ -143,7 +160,7 @@ pub fn lines_of(alloc: Global, answer: &Answer) -> Result<Vec<Name>, OutOfMemory
         Answer::Usage => one_line(alloc, USAGE),
         Answer::ReadFault => one_line(alloc, "fault: read"),
         Answer::TooLong(name) => too_long(alloc, name),
-        Answer::Refused(reason) => refusal(alloc, *reason),
+        Answer::Refused(reason) => refusal(alloc, reason),
         Answer::Done(compiled) => result_of(alloc, compiled),
         Answer::Refuted => one_line(alloc, "refuted"),
         Answer::NotRefuted(node) => not_refuted(alloc, *node),

@@ -1,4 +1,4 @@
-use Rattle.std.proofs.Common.{inl, sym, ◌∙◌, subst}
+use Rattle.std.proofs.Common.{inl, inr, refl, sym, ◌∙◌, subst}
 use Rattle.merlin_base.specs.Texts.{joined}
 use Rattle.merlin_base.specs.Outside.{Grows}
 use Rattle.merlin.specs.Outcome.{Succeeds, Stops, FallsShort}
@@ -8,6 +8,16 @@ use Rattle.merlin.proofs.program.run.Goals as goal
 
 pub lines_of-requires : goal.lines_of-requires
 lines_of-requires g c = c.in-Ok.ensures.is_printable
+
+pub returns-in-Ok-write_lines-clause-outcome : goal.returns-in-Ok-write_lines-clause-outcome
+returns-in-Ok-write_lines-clause-outcome g c = inr (
+  c.in-Ok.answer,
+  c.in-Ok.ensures.is_answer,
+  inl (
+    c.status_of.ensures,
+    subst (λ ls. Grows (g.K.Sink.taken c.args.out.now) (g.K.Sink.taken c.write_lines.new.out) (joined ls)) (c.deref.ensures.value ∙ c.in-Ok-lines_of.ensures) c.in-Ok-write_lines.ensures.ok,
+  ),
+)
 
 pub returns-in-Ok-write_lines-clause-usage : goal.returns-in-Ok-write_lines-clause-usage
 returns-in-Ok-write_lines-clause-usage g c = λ e. IsNoForm-from_usage _ _ _ c.in-Ok.ensures.is_answer (sym c.status_of.ensures ∙ e)

@@ -6,6 +6,8 @@ mod networks;
 #[cfg(test)]
 mod outcomes;
 #[cfg(test)]
+mod policies;
+#[cfg(test)]
 mod refuting;
 #[cfg(test)]
 mod results;

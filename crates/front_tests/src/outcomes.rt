@@ -53,7 +53,7 @@ fn refusals(rt: HostRuntime) -> Result<(), Fail> {
     let alloc = rt.alloc();
     let json = "refused: topology json\n";
     let unbuilt = "refused: unbuilt\n";
-    let rows: [(&[u8], &[u8], &str); 14] = [
+    let rows: [(&[u8], &[u8], &str); 11] = [
         (EVERY_WAY, b"{", json),
         (EVERY_WAY, b"", json),
         (EVERY_WAY, b"{} {}", json),
@@ -71,9 +71,6 @@ fn refusals(rt: HostRuntime) -> Result<(), Fail> {
             b"{\"locations\":[],\"links\":[],\"functions\":[{\"name\":\"f\",\"places\":[]}]}",
             unbuilt,
         ),
-        (b"", ONE_SWITCH, unbuilt),
-        (b"[ default -> .* ] ", ONE_SWITCH, unbuilt),
-        (b"[ default -> .* ]\n\n", ONE_SWITCH, unbuilt),
         (b"[ default -> .* h1 ]", ONE_SWITCH, unbuilt),
         (b"[ default -> s9 ]", b"{", unbuilt),
     ];
@@ -94,7 +91,13 @@ fn long_files(rt: HostRuntime) -> Result<(), Fail> {
         ("p|t", &too_long, b"{", 1, "refused: too long p\n"),
         ("p|t", b"[ ]", &too_long, 1, "refused: too long t\n"),
         ("q|t", EVERY_WAY, &too_long, 7, "fault: read\n"),
-        ("p|t", &longest, ONE_SWITCH, 1, "refused: unbuilt\n"),
+        (
+            "p|t",
+            &longest,
+            ONE_SWITCH,
+            1,
+            "refused: policy syntax at 16777216\n",
+        ),
     ];
     for (names, policy, topology, code, want) in rows {
         let line = format!(in alloc; "compile|{names}|shortest")?;

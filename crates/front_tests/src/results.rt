@@ -7,7 +7,8 @@ use crate::runs::{EVERY_WAY, ran};
 use merlin_base::Status;
 use std::test::Fail;
 
-const ONE_SWITCH_TEXT: &str = "merlin 1 ok
+/// What one switch with two hosts gets.
+pub const ONE_SWITCH_TEXT: &str = "merlin 1 ok
 objective shortest 0
 rule s1 100 dl_dst=00:00:00:00:00:01,dl_vlan=1 strip_vlan,output=1
 rule s1 100 dl_dst=00:00:00:00:00:02,dl_vlan=1 strip_vlan,output=2

@@ -253,6 +253,8 @@ fn numbers_and_bytes(rt: HostRuntime) -> Result<(), Fail> {
         &rt,
         rt.alloc(),
         &[
+            ("A:={00:00:00:00:00:01_}[]", "number 4"),
+            ("[1:true->.]", "number 1"),
             ("[ x : ip.src = 10.0.0.256 -> .* ]", "number 15"),
             ("[x:tcp.dst=65536->.]", "number 11"),
             ("[x:tcp.dst=080->.]", "number 11"),

@@ -387,62 +387,64 @@ fn crossed(
     Ok(text)
 }
 
+const LISTED: &[(u32, &str, &str)] = &[
+    (
+        4095,
+        "default->.]",
+        "4095 statements s0 to s4094 and default, 0 terms",
+    ),
+    (4096, "default->.]", "statements 4097"),
+    (4096, "]", "4096 statements s0 to s4095, 0 terms"),
+    (4097, "]", "statements 4097"),
+    (9999, "]", "statements 4097"),
+    (4095, "s0:true->.;default->.]", "statements 4097"),
+    (4094, "s0:true->.;default->.]", "duplicate id s0"),
+];
+
+const CROSSED: &[(u32, u32, &str, &str, &str)] = &[
+    (64, 64, "A,B", "]", "4096 statements w_1 to w_4096, 0 terms"),
+    (64, 64, "A,B", ";default->.]", "statements 4097"),
+    (
+        64,
+        64,
+        "A,A",
+        ";default->.]",
+        "4032 statements w_1 to w_4032 and default, 0 terms",
+    ),
+    (
+        64,
+        64,
+        "B,A",
+        " at max(1kbps)]",
+        "4096 statements w_1 to w_4096, 4096 terms",
+    ),
+    (65, 1, "A,A", "]", "statements 4097"),
+    (241, 17, "A,B", "]", "statements 4097"),
+    (
+        241,
+        16,
+        "A,B",
+        ";foreach(s,d)in cross(B,B):v:true->.]",
+        "4096 statements w_1 to v_240, 0 terms",
+    ),
+];
+
 #[test]
 fn at_most_4096_statements(rt: HostRuntime) -> Result<(), Fail> {
     let alloc = rt.alloc();
-    let listed = [
-        (
-            4095,
-            "default->.]",
-            "4095 statements s0 to s4094 and default, 0 terms",
-        ),
-        (4096, "default->.]", "statements 4097"),
-        (4096, "]", "4096 statements s0 to s4095, 0 terms"),
-        (4097, "]", "statements 4097"),
-        (9999, "]", "statements 4097"),
-        (4095, "s0:true->.;default->.]", "statements 4097"),
-        (4094, "s0:true->.;default->.]", "duplicate id s0"),
-    ];
-    for (count, back, want) in listed {
-        let text = statements(alloc, count, back)?;
+    for (count, back, want) in LISTED {
+        let text = statements(alloc, *count, back)?;
         assert_eq!(rt;
             outlined(alloc, text.as_bytes())?.as_str(),
-            want,
+            *want,
             "{count}{back}"
         );
     }
-    let pairs = [
-        (64, 64, "A,B", "]", "4096 statements w_1 to w_4096, 0 terms"),
-        (64, 64, "A,B", ";default->.]", "statements 4097"),
-        (
-            64,
-            64,
-            "A,A",
-            ";default->.]",
-            "4032 statements w_1 to w_4032 and default, 0 terms",
-        ),
-        (
-            64,
-            64,
-            "B,A",
-            " at max(1kbps)]",
-            "4096 statements w_1 to w_4096, 4096 terms",
-        ),
-        (65, 1, "A,A", "]", "statements 4097"),
-        (241, 17, "A,B", "]", "statements 4097"),
-        (
-            241,
-            16,
-            "A,B",
-            ";foreach(s,d)in cross(B,B):v:true->.]",
-            "4096 statements w_1 to v_240, 0 terms",
-        ),
-    ];
-    for (one, other, sets, back, want) in pairs {
-        let text = crossed(alloc, one, other, sets, back)?;
+    for (one, other, sets, back, want) in CROSSED {
+        let text = crossed(alloc, *one, *other, sets, back)?;
         assert_eq!(rt;
             outlined(alloc, text.as_bytes())?.as_str(),
-            want,
+            *want,
             "{one} {other} {sets}{back}"
         );
     }
@@ -493,6 +495,45 @@ fn office(alloc: Global) -> Result<String, AllocError> {
     Ok(text)
 }
 
+const STATEMENTS: &[(usize, &str)] = &[
+    (
+        0,
+        "g1 : all(ip.src=10.1.0.1 ip.dst=10.1.0.11 17.dport=5004) -> star(.); ",
+    ),
+    (
+        9,
+        "g10 : all(ip.src=10.1.0.10 ip.dst=10.1.0.20 17.dport=5004) -> star(.); ",
+    ),
+    (
+        82,
+        "back_1 : all(ip.src=10.1.0.19 ip.dst=10.1.0.1 6.sport=443) -> star(.); ",
+    ),
+    (
+        83,
+        "back_2 : all(ip.src=10.1.0.19 ip.dst=10.1.0.2 6.sport=443) -> star(.); ",
+    ),
+    (
+        153,
+        "back_72 : all(ip.src=10.1.0.22 ip.dst=10.1.0.18 6.sport=443) -> star(.); ",
+    ),
+    (
+        154,
+        "dns_1 : all(ip.src=10.1.0.1 ip.dst=10.1.0.21 17.dport=53) -> star(.); ",
+    ),
+    (
+        189,
+        "dns_36 : all(ip.src=10.1.0.18 ip.dst=10.1.0.22 17.dport=53) -> star(.); ",
+    ),
+    (
+        190,
+        "ssh_1 : all(ip.src=10.1.0.1 ip.dst=10.1.0.2 6.dport=22) -> star(.); ",
+    ),
+    (
+        198,
+        "ssh_9 : all(ip.src=10.1.0.1 ip.dst=10.1.0.10 6.dport=22) -> star(.); ",
+    ),
+];
+
 #[test]
 fn policy_of_an_office(rt: HostRuntime) -> Result<(), Fail> {
     let alloc = rt.alloc();
@@ -502,48 +543,10 @@ fn policy_of_an_office(rt: HostRuntime) -> Result<(), Fail> {
         size.as_str(),
         "199 statements g1 to ssh_9 and default, 82 terms"
     );
-    let rows = [
-        (
-            0,
-            "g1 : all(ip.src=10.1.0.1 ip.dst=10.1.0.11 17.dport=5004) -> star(.); ",
-        ),
-        (
-            9,
-            "g10 : all(ip.src=10.1.0.10 ip.dst=10.1.0.20 17.dport=5004) -> star(.); ",
-        ),
-        (
-            82,
-            "back_1 : all(ip.src=10.1.0.19 ip.dst=10.1.0.1 6.sport=443) -> star(.); ",
-        ),
-        (
-            83,
-            "back_2 : all(ip.src=10.1.0.19 ip.dst=10.1.0.2 6.sport=443) -> star(.); ",
-        ),
-        (
-            153,
-            "back_72 : all(ip.src=10.1.0.22 ip.dst=10.1.0.18 6.sport=443) -> star(.); ",
-        ),
-        (
-            154,
-            "dns_1 : all(ip.src=10.1.0.1 ip.dst=10.1.0.21 17.dport=53) -> star(.); ",
-        ),
-        (
-            189,
-            "dns_36 : all(ip.src=10.1.0.18 ip.dst=10.1.0.22 17.dport=53) -> star(.); ",
-        ),
-        (
-            190,
-            "ssh_1 : all(ip.src=10.1.0.1 ip.dst=10.1.0.2 6.dport=22) -> star(.); ",
-        ),
-        (
-            198,
-            "ssh_9 : all(ip.src=10.1.0.1 ip.dst=10.1.0.10 6.dport=22) -> star(.); ",
-        ),
-    ];
     let policy = parse(alloc, text.as_bytes()).ok().ok_or("no policy")?;
-    for (place, want) in rows {
-        let statement = statement_text(alloc, &policy, place)?;
-        assert_eq!(rt; statement.as_str(), want);
+    for (place, want) in STATEMENTS {
+        let statement = statement_text(alloc, &policy, *place)?;
+        assert_eq!(rt; statement.as_str(), *want);
     }
     let mut terms = String::new(alloc);
     for number in 1..11u32 {

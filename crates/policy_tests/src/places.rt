@@ -247,30 +247,28 @@ fn syntax(rt: HostRuntime) -> Result<(), Fail> {
     Ok(())
 }
 
+const TOKEN_FAULTS: &[(&str, &str)] = &[
+    ("A:={00:00:00:00:00:01_}[]", "number 4"),
+    ("[1:true->.]", "number 1"),
+    ("[ x : ip.src = 10.0.0.256 -> .* ]", "number 15"),
+    ("[x:tcp.dst=65536->.]", "number 11"),
+    ("[x:tcp.dst=080->.]", "number 11"),
+    ("A:={10.0.0}[]", "number 4"),
+    ("A:={00:00:00:00:00}[]", "number 4"),
+    ("[x:true->.at max(1000000001kbps)]", "number 17"),
+    ("[],max(x,1gbps)", "number 9"),
+    ("[x:true->1.]", "number 9"),
+    ("[ default -> ? ]", "byte 13"),
+    ("[x:true-.]", "byte 7"),
+    ("[],max(x,5kbps-", "byte 14"),
+    ("[x:true&true->.]", "byte 7"),
+    ("[a1b2c3d4e5f6g7h8i9j0k1l2m3n4o5p6q:true->.]", "byte 1"),
+    ("ä:={}[]", "byte 0"),
+];
+
 #[test]
 fn numbers_and_bytes(rt: HostRuntime) -> Result<(), Fail> {
-    agrees(
-        &rt,
-        rt.alloc(),
-        &[
-            ("A:={00:00:00:00:00:01_}[]", "number 4"),
-            ("[1:true->.]", "number 1"),
-            ("[ x : ip.src = 10.0.0.256 -> .* ]", "number 15"),
-            ("[x:tcp.dst=65536->.]", "number 11"),
-            ("[x:tcp.dst=080->.]", "number 11"),
-            ("A:={10.0.0}[]", "number 4"),
-            ("A:={00:00:00:00:00}[]", "number 4"),
-            ("[x:true->.at max(1000000001kbps)]", "number 17"),
-            ("[],max(x,1gbps)", "number 9"),
-            ("[x:true->1.]", "number 9"),
-            ("[ default -> ? ]", "byte 13"),
-            ("[x:true-.]", "byte 7"),
-            ("[],max(x,5kbps-", "byte 14"),
-            ("[x:true&true->.]", "byte 7"),
-            ("[a1b2c3d4e5f6g7h8i9j0k1l2m3n4o5p6q:true->.]", "byte 1"),
-            ("ä:={}[]", "byte 0"),
-        ],
-    )
+    agrees(&rt, rt.alloc(), TOKEN_FAULTS)
 }
 
 /// What a text is that ends with a token.

@@ -1,3 +1,4 @@
+pub mod Names
 pub mod Packets
 pub mod Predicates
 pub mod Networks

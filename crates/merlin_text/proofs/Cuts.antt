@@ -15,7 +15,7 @@ use Rattle.merlin_text.specs.Tokens.{Piece, text_of, ArePieces, token_at, tokens
 use Rattle.merlin_text.proofs.OnePiece.{one_piece, piece_some}
 use Rattle.merlin_text.proofs.Fronts.{none_at_end}
 
-pieces_once : (ps qs : List Piece) (r s : List ℕ) → ArePieces ps r → ArePieces qs s → BeginsNoPiece r → BeginsNoPiece s → text_of ps ++ r ≡ text_of qs ++ s → (ps ≡ qs) × (r ≡ s)
+pub pieces_once : (ps qs : List Piece) (r s : List ℕ) → ArePieces ps r → ArePieces qs s → BeginsNoPiece r → BeginsNoPiece s → text_of ps ++ r ≡ text_of qs ++ s → (ps ≡ qs) × (r ≡ s)
 pieces_once [] [] r s p q none none' e = (refl, e)
 pieces_once [] ((k, w) ∷ qs) r s p q none none' e = absurd (none k w (text_of qs ++ s) (e ∙ append_assoc w (text_of qs) s) q.0)
 pieces_once ((j, v) ∷ ps) [] r s p q none none' e = absurd (none' j v (text_of ps ++ r) (sym e ∙ append_assoc v (text_of ps) r) p.0)

@@ -3,4 +3,5 @@ pub mod Signs
 pub mod OnePiece
 pub mod Fronts
 pub mod Cuts
+pub mod Rest
 pub mod NoMac

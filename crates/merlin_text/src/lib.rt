@@ -1,6 +1,7 @@
 //! The tokens of policy text.
 #![tactic(auto)]
 
+mod cursor;
 mod pieces;
 mod scan;
 mod token;

@@ -1,25 +1,13 @@
-// A whole text, piece by piece.
-ghost use Rattle.std.specs.Prelude.{◌≡◌, ◌≢◌, ◌⊎◌, ℕ, List, IfOk, IfErr, MatchResult, Err};
-ghost use Rattle.merlin_text.specs.Tokens.{AreTokens, AreSlices, IsFault, StopsAt};
+// All tokens of a text.
+ghost use Rattle.std.specs.Prelude.{◌≡◌, ◌⊎◌, List, IfOk, IfErr, MatchResult, Err};
+ghost use Rattle.merlin_text.specs.Tokens.{AreTokens, AreSlices, IsFault};
 ghost use Rattle.merlin_text.specs.declared.token.Token.{Token};
 ghost use Rattle.merlin_text.specs.declared.token.TokenFault.{TokenFault};
 ghost use Rattle.merlin_text.specs.declared.token.TokenFault.TheVariants as faults;
 
-use crate::pieces::front_of;
-use crate::{Span, Token, TokenFault};
+use crate::cursor::{Cursor, scan};
+use crate::{Token, TokenFault};
 use std::alloc::Global;
-
-// The fault where no piece begins with the byte at this place.
-fn fault_of(byte: u8, at: usize) -> TokenFault
-    ensures fault { (text : List ℕ) → StopsAt text at byte → IsFault text result }
-    ensures given { result ≢ faults.OutOfMemory }
-{
-    if byte.is_ascii_digit() {
-        TokenFault::BadNumber { at }
-    } else {
-        TokenFault::BadByte { at }
-    }
-}
 
 /// The tokens of a policy text, in order. A fault is the first of the text.
 pub fn tokens(alloc: Global, bytes: &[u8]) -> Result<Vec<Token>, TokenFault>
@@ -29,18 +17,22 @@ pub fn tokens(alloc: Global, bytes: &[u8]) -> Result<Vec<Token>, TokenFault>
     ensures only { (tokens : List Token) → AreTokens bytes.now tokens → MatchResult result (λ kept. kept.items ≡ tokens) (λ fault. fault ≡ faults.OutOfMemory) }
     ensures only_fault { (fault : TokenFault) → IsFault bytes.now fault → (fault ≡ faults.OutOfMemory) ⊎ (result ≡ Err fault) ⊎ (result ≡ Err faults.OutOfMemory) }
 {
-    let mut tokens = Vec::new(alloc);
-    let mut at = 0;
-    while at < bytes.len() {
-        let Some(front) = front_of(&bytes[at..]) else {
-            return Err(fault_of(bytes[at], at));
-        };
-        let end = at + front.length;
-        if let Some(kind) = front.kind {
-            let span = Span { start: at, end };
-            tokens.push(Token { kind, span })?;
-        }
-        at = end;
+    match scan(bytes) {
+        Ok(tokens) => kept(alloc, tokens),
+        Err(fault) => Err(fault),
     }
-    Ok(tokens)
+}
+
+// All tokens that are left.
+fn kept(alloc: Global, tokens: Cursor<'_>) -> Result<Vec<Token>, TokenFault>
+    ensures ok { IfOk result (λ kept. kept.items ≡ tokens.entry) }
+    ensures err { IfErr result (λ fault. fault ≡ faults.OutOfMemory) }
+{
+    let mut kept = Vec::with_capacity(alloc, tokens.len())?;
+    let mut rest = tokens;
+    'rest: while let Some((token, others)) = rest.split_first() {
+        kept.push(token)?;
+        rest = others;
+    }
+    Ok(kept)
 }

@@ -1,52 +1,36 @@
-use Rattle.std.proofs.Common.{◌+◌, drop, append-nil, inl, inr, Some, None, Err, ap, sym, subst}
-use Rattle.std.proofs.lemmas.List.{take_rest}
-use Rattle.merlin_text.specs.Tokens.{IsCut, IsFault}
-use Rattle.merlin_text.specs.Fronts.{IsFront}
-use Rattle.merlin_text.proofs.Cuts.{scan_more, scan_within, stop_here, cut_done, slices, tokens_once, tokens_or_fault, one_fault}
+use Rattle.std.proofs.Common.{◌≡◌, ◌⊎◌, inl, inr, ℕ, List, Ok, Err, Result, Vec, Global, ap, sym, ◌∙◌, subst}
+use Rattle.std.specs.Prelude.{IfOk, IfErr, MatchResult}
+use Rattle.merlin_text.specs.declared.token.Token.{Token}
+use Rattle.merlin_text.specs.declared.token.TokenFault.{TokenFault}
+use Rattle.merlin_text.specs.declared.token.TokenFault.TheVariants as faults
+use Rattle.merlin_text.specs.Tokens.{AreTokens, AreSlices}
+use Rattle.merlin_text.proofs.Cuts.{slices, tokens_once, tokens_or_fault, one_fault}
 use Rattle.merlin_text.proofs.scan.tokens.Goals as goal
 
--- the fault at which the loop stops
-found : (c : goal.After-drop-tokens) → IsFault c.args.bytes.now c.fault_of.result
-found c =
-    c.fault_of.ensures.fault c.args.bytes.now
-    (stop_here c.args.bytes.now c.loop-at.tokens.items c.loop-at.at c.loop-at-test.true c.loop-at.invariant.cut (rw (take_rest c.args.bytes.now c.loop-at.at) at c.in_default.ensures.none))
+kept_slices : (text : List ℕ) (ts : List Token) (r : Result (Vec Token Global) TokenFault) → AreTokens text ts → IfOk r (λ kept. kept.items ≡ ts) → IfOk r (λ kept. AreSlices text 0 kept.items)
+kept_slices text ts (Ok kept) are ok = subst (AreSlices text 0) (sym ok) (slices text _ ts are)
+kept_slices text ts (Err fault) are ok = tt
 
-pub returns-in_default-clause-fault : goal.returns-in_default-clause-fault
-returns-in_default-clause-fault c = found c
+kept_only : (text : List ℕ) (ts us : List Token) (r : Result (Vec Token Global) TokenFault) → AreTokens text ts → IfOk r (λ kept. kept.items ≡ ts) → IfErr r (λ fault. fault ≡ faults.OutOfMemory) → AreTokens text us
+    → MatchResult r (λ kept. kept.items ≡ us) (λ fault. fault ≡ faults.OutOfMemory)
+kept_only text ts us (Ok kept) are ok err others = ok ∙ tokens_once text ts us are others
+kept_only text ts us (Err fault) are ok err others = err
 
-pub returns-in_default-clause-only : goal.returns-in_default-clause-only
-returns-in_default-clause-only c = λ tokens are. tokens_or_fault c.args.bytes.now tokens c.fault_of.result are (found c)
+pub returns-in-Ok-clause-slices : goal.returns-in-Ok-clause-slices
+returns-in-Ok-clause-slices c = kept_slices _ _ _ c.in-Ok.ensures.tokens c.kept.ensures.ok
 
-pub returns-in_default-clause-only_fault : goal.returns-in_default-clause-only_fault
-returns-in_default-clause-only_fault c = λ fault is. elim (one_fault c.args.bytes.now fault c.fault_of.result is (found c)) [
+pub returns-in-Ok-clause-only : goal.returns-in-Ok-clause-only
+returns-in-Ok-clause-only c = λ tokens are. kept_only _ _ tokens _ c.in-Ok.ensures.tokens c.kept.ensures.ok c.kept.ensures.err are
+
+pub returns-in-Ok-clause-only_fault : goal.returns-in-Ok-clause-only_fault
+returns-in-Ok-clause-only_fault c = λ fault is. inl (tokens_or_fault _ _ _ c.in-Ok.ensures.tokens is)
+
+pub returns-in-Err-clause-only : goal.returns-in-Err-clause-only
+returns-in-Err-clause-only c = λ tokens are. tokens_or_fault _ _ _ are c.in-Err.ensures.fault
+
+pub returns-in-Err-clause-only_fault : goal.returns-in-Err-clause-only_fault
+returns-in-Err-clause-only_fault c = λ fault is. elim (one_fault _ fault _ is c.in-Err.ensures.fault) [
   | inl memory ↦ inl memory
-  | inr found' ↦ elim found' [ inl memory ↦ absurd (c.fault_of.ensures.given memory) | inr same ↦ inr (inl (ap Err (sym same))) ]
+  | inr (inl memory) ↦ absurd (c.in-Err.ensures.given memory)
+  | inr (inr same) ↦ inr (inl (ap Err (sym same)))
 ]
-
-pub loop-at-preserved-in_ok-push : goal.loop-at-preserved-in_ok-push
-loop-at-preserved-in_ok-push c =
-    let here : IsFront (drop c.loop-at.at c.args.bytes.now) c.in-Some.front.length (Some c.in-Some-kind.kind) =
-    subst (IsFront (drop c.loop-at.at c.args.bytes.now) c.in-Some.front.length) c.in-Some-kind.is (rw (take_rest c.args.bytes.now c.loop-at.at) at c.in-Some.ensures.some) in
-    record {
-      within = scan_within c.args.bytes.now c.loop-at.at c.in-Some.front.length (Some c.in-Some-kind.kind) c.loop-at.invariant.within here;
-      cut = rw c.in_ok-push.ensures.items (scan_more c.args.bytes.now c.loop-at.tokens.items c.loop-at.at c.in-Some.front.length (Some c.in-Some-kind.kind) c.loop-at.invariant.within c.loop-at.invariant.cut here);
-    }
-
-pub loop-at-preserved : goal.loop-at-preserved
-loop-at-preserved c =
-    let here : IsFront (drop c.loop-at.at c.args.bytes.now) c.in-Some.front.length None =
-    subst (IsFront (drop c.loop-at.at c.args.bytes.now) c.in-Some.front.length) c.in_default-kind.is (rw (take_rest c.args.bytes.now c.loop-at.at) at c.in-Some.ensures.some) in
-    record {
-      within = scan_within c.args.bytes.now c.loop-at.at c.in-Some.front.length None c.loop-at.invariant.within here;
-      cut = subst (IsCut c.args.bytes.now (drop (c.loop-at.at + c.in-Some.front.length) c.args.bytes.now)) (append-nil c.loop-at.tokens.items)
-          (scan_more c.args.bytes.now c.loop-at.tokens.items c.loop-at.at c.in-Some.front.length None c.loop-at.invariant.within c.loop-at.invariant.cut here);
-    }
-
-pub returns-clause-slices : goal.returns-clause-slices
-returns-clause-slices c = slices c.args.bytes.now _ c.loop-at.tokens.items c.loop-at.invariant.cut
-
-pub returns-clause-only : goal.returns-clause-only
-returns-clause-only c = λ tokens are. tokens_once c.args.bytes.now c.loop-at.tokens.items tokens (cut_done _ _ _ c.loop-at-test.false c.loop-at.invariant.cut) are
-
-pub returns-clause-only_fault : goal.returns-clause-only_fault
-returns-clause-only_fault c = λ fault is. inl (tokens_or_fault c.args.bytes.now c.loop-at.tokens.items fault (cut_done _ _ _ c.loop-at-test.false c.loop-at.invariant.cut) is)

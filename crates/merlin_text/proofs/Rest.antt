@@ -21,6 +21,10 @@ cut_from_once text at ts us p q =
 are_rest : (text : List ℕ) (at : ℕ) (ts : List Token) → ∥ IsCutFrom text at ts ∥₁ → AreRest text at ts
 are_rest text at ts t = (t, λ others q. ∥∥₁_elim t (tokens_are_a_set others ts) (λ p. cut_from_once text at others ts q p))
 
+-- from one place on there is one rest
+pub one_rest : (text : List ℕ) (at : ℕ) (ts us : List Token) → AreRest text at ts → AreRest text at us → ts ≡ us
+one_rest text at ts us a b = ∥∥₁_elim a.0 (tokens_are_a_set ts us) (λ p. b.1 ts p)
+
 -- a text that is cut to its end, from its start on
 from_start : (text : List ℕ) (ts : List Token) → AreTokens text ts → IsCutFrom text 0 ts
 from_start text ts c = record { pieces = c.pieces; within = omega arith; whole = c.whole ∙ append-nil (text_of c.pieces); lawful = c.lawful; lexemes = c.lexemes }

@@ -33,6 +33,17 @@ impl<'a> Cursor<'a> {
         self.left
     }
 
+    /// The same tokens once more.
+    pub fn copy(&self) -> Cursor<'a>
+        ensures { result ≡ self.now }
+    {
+        Cursor {
+            text: self.text,
+            at: self.at,
+            left: self.left,
+        }
+    }
+
     /// The next token, and those after it. None where none is left.
     pub fn split_first(&self) -> Option<(Token, Cursor<'a>)>
         ensures some { IfSome result (λ split. self.now ≡ split.0 ∷ split.1) }

@@ -3,8 +3,9 @@
 
 mod cursor;
 mod pieces;
-mod scan;
 mod token;
+mod whole;
 
-pub use scan::tokens;
+pub use cursor::{Cursor, scan};
 pub use token::{Kind, Sign, Span, Token, TokenFault, Word};
+pub use whole::tokens;

@@ -3,13 +3,14 @@ use Rattle.std.specs.Prelude.{ℕ, ◌≡◌, List, [], ◌∷◌, Option, None,
 use Rattle.merlin_model.specs.declared.policy.Pred.{Pred}
 use Rattle.merlin_model.specs.declared.policy.Term.{Term}
 use Rattle.merlin_text.specs.declared.token.Sign.TheVariants as signs
+use Rattle.merlin_text.specs.declared.token.Token.{Token}
 use Rattle.policy_grammar.specs.declared.written.Item.{Item}
 use Rattle.policy_grammar.specs.declared.written.Limit.{Limit}
 use Rattle.policy_grammar.specs.declared.written.RawPath.{RawPath}
 use Rattle.policy_grammar.specs.declared.written.WrittenPolicy.{WrittenPolicy}
 use Rattle.policy_grammar.specs.declared.written.WrittenSet.{WrittenSet}
-use Rattle.policy_grammar.specs.Lexemes.{Lexeme, sign}
-use Rattle.policy_grammar.specs.Machine.{Awaited, Head, Heading, Opened, State, this_sign, literal, lits, conjs, statement_pred, item, formula, listed, with_item, path_negation, reps, begins_rep, at}
+use Rattle.policy_grammar.specs.Lexemes.{Lexeme, lexemes, sign}
+use Rattle.policy_grammar.specs.Machine.{Awaited, Head, Heading, Opened, State, this_sign, literal, lits, conjs, statement_pred, item, formula, listed, with_item, path_negation, reps, begins_rep, term, run, at}
 use Rattle.policy_parser.specs.declared.fault.ReadError.{ReadError}
 use Rattle.policy_parser.specs.declared.fault.ReadError.TheVariants as errors
 use Rattle.policy_parser.specs.declared.items.End.{End}
@@ -66,3 +67,8 @@ abbrev pub after_entry : Entry → Head → State
 after_entry (entries.Item i end) h = ended end (with_item h i)
 after_entry (entries.Default path) h = at (formula (listed h (Some path)) ∷ []) 0
 after_entry entries.End h = at (formula (listed h None) ∷ []) 0
+
+-- after a term: another one, or the whole policy
+abbrev pub more_terms : List ℕ → WrittenPolicy → Option (List Token) → Result WrittenPolicy ℕ
+more_terms bytes w (Some rest) = run (lexemes bytes rest) (at (term w ∷ []) 0)
+more_terms bytes w None = Ok w

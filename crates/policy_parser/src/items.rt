@@ -16,7 +16,7 @@ use crate::predicates::predicate;
 use crate::signs::{any_name_at, bound_at, name_at, rate_at, sign_at, text, word_at};
 use merlin_model::name::{Name, name_from};
 use merlin_model::policy::Pred;
-use merlin_text::{Kind, Sign, Token, Word};
+use merlin_text::{Cursor, Kind, Sign, Word};
 use policy_grammar::written::{Item, Limit, RawPath, WrittenStatement};
 use sqlite_items::Items;
 use std::alloc::Global;
@@ -51,10 +51,10 @@ pub enum Entry {
 }
 
 /// A limit, and what follows it.
-fn limit_at(tokens: &[Token]) -> Result<(Limit, &[Token]), ReadError>
+fn limit_at<'a>(tokens: Cursor<'a>) -> Result<(Limit, Cursor<'a>), ReadError>
     ensures goes { (bytes : List ℕ) (o : Opened) →
-        Goes result (λ r. run (lexemes bytes r.1.now) (at (limit_rest (with_limit o r.0.bound r.0.rate) ∷ []) 0)) (run (lexemes bytes tokens.now) (at (limit_awaited o ∷ []) 0)) }
-    ensures shorter { IfOk result (λ r. length r.1.now < length tokens.now) }
+        Goes result (λ r. run (lexemes bytes r.1) (at (limit_rest (with_limit o r.0.bound r.0.rate) ∷ []) 0)) (run (lexemes bytes tokens.entry) (at (limit_awaited o ∷ []) 0)) }
+    ensures shorter { IfOk result (λ r. length r.1 < length tokens.entry) }
 {
     let (bound, rest) = bound_at(tokens)?;
     let rest = sign_at(Sign::OpenGroup, rest)?;
@@ -64,17 +64,17 @@ fn limit_at(tokens: &[Token]) -> Result<(Limit, &[Token]), ReadError>
 }
 
 /// The limits after `at`, up to the sign that ends the statement.
-fn limits(alloc: Global, tokens: &[Token]) -> Result<(Items<Limit>, End, &[Token]), ReadError>
+fn limits<'a>(alloc: Global, tokens: Cursor<'a>) -> Result<(Items<Limit>, End, Cursor<'a>), ReadError>
     ensures goes { (bytes : List ℕ) (h : Heading) (pred : Pred) (path : RawPath) →
-        Goes result (λ r. run (lexemes bytes r.2.now) (ended r.1 (closed (opened h pred path r.0)))) (run (lexemes bytes tokens.now) (at (limit_awaited (opened h pred path []) ∷ []) 0)) }
-    ensures shorter { IfOk result (λ r. length r.2.now < length tokens.now) }
+        Goes result (λ r. run (lexemes bytes r.2) (ended r.1 (closed (opened h pred path r.0)))) (run (lexemes bytes tokens.entry) (at (limit_awaited (opened h pred path []) ∷ []) 0)) }
+    ensures shorter { IfOk result (λ r. length r.2 < length tokens.entry) }
 {
     let mut limits = Items::new(alloc);
     let mut rest = tokens;
     'limits: loop {
         let (limit, others) = limit_at(rest)?;
         limits.push(limit)?;
-        let [first, after @ ..] = others else {
+        let Some((first, after)) = others.split_first() else {
             return Err(ReadError::Syntax(0));
         };
         match first.kind {
@@ -87,15 +87,14 @@ fn limits(alloc: Global, tokens: &[Token]) -> Result<(Items<Limit>, End, &[Token
 }
 
 /// What follows a statement's path: its limits, and the sign that ends it.
-fn statement_end(
+fn statement_end<'a>(
     alloc: Global,
-    tokens: &[Token],
-) -> Result<(Items<Limit>, End, &[Token]), ReadError>
+    tokens: Cursor<'a>) -> Result<(Items<Limit>, End, Cursor<'a>), ReadError>
     ensures goes { (bytes : List ℕ) (h : Heading) (pred : Pred) (path : RawPath) (n : ℕ) →
-        Goes result (λ r. run (lexemes bytes r.2.now) (ended r.1 (closed (opened h pred path r.0)))) (run (lexemes bytes tokens.now) (at (whole_path path ∷ statement_path h pred ∷ []) n)) }
-    ensures shorter { IfOk result (λ r. length r.2.now < length tokens.now) }
+        Goes result (λ r. run (lexemes bytes r.2) (ended r.1 (closed (opened h pred path r.0)))) (run (lexemes bytes tokens.entry) (at (whole_path path ∷ statement_path h pred ∷ []) n)) }
+    ensures shorter { IfOk result (λ r. length r.2 < length tokens.entry) }
 {
-    let [first, rest @ ..] = tokens else {
+    let Some((first, rest)) = tokens.split_first() else {
         return Err(ReadError::Syntax(0));
     };
     match first.kind {
@@ -110,22 +109,19 @@ fn statement_end(
 fn pred_part<'a>(
     alloc: Global,
     bytes: &[u8],
-    tokens: &'a [Token],
-) -> Result<(Pred, &'a [Token]), ReadError>
+    tokens: Cursor<'a>,
+) -> Result<(Pred, Cursor<'a>), ReadError>
     ensures goes { (h : Heading) →
-        Goes result (λ r. run (lexemes bytes.now r.1.now) (at (rep ∷ reps [] ∷ alts [] ∷ statement_path h r.0 ∷ []) 2048)) (run (lexemes bytes.now tokens.now) (statement_awaited h)) }
-    ensures shorter { IfOk result (λ r. length r.1.now < length tokens.now) }
+        Goes result (λ r. run (lexemes bytes.now r.1) (at (rep ∷ reps [] ∷ alts [] ∷ statement_path h r.0 ∷ []) 2048)) (run (lexemes bytes.now tokens.entry) (statement_awaited h)) }
+    ensures shorter { IfOk result (λ r. length r.1 < length tokens.entry) }
 {
     let rest = sign_at(Sign::Colon, tokens)?;
     let (pred, rest, _left) = predicate(alloc, bytes, rest, NESTING, TESTS)?;
-    match rest {
-        [
-            Token {
-                kind: Kind::Sign(Sign::Arrow),
-                ..
-            },
-            rest @ ..,
-        ] => Ok((pred, rest)),
+    let Some((first, after)) = rest.split_first() else {
+        return Err(ReadError::Syntax(0));
+    };
+    match first.kind {
+        Kind::Sign(Sign::Arrow) => Ok((pred, after)),
         _ => Err(ReadError::Syntax(rest.len())),
     }
 }
@@ -135,11 +131,11 @@ fn statement<'a>(
     alloc: Global,
     id: Name,
     bytes: &[u8],
-    tokens: &'a [Token],
-) -> Result<(WrittenStatement, End, &'a [Token]), ReadError>
+    tokens: Cursor<'a>,
+) -> Result<(WrittenStatement, End, Cursor<'a>), ReadError>
     ensures goes { (h : Head) (pair : Option (List ℕ × List ℕ)) →
-        Goes result (λ r. run (lexemes bytes.now r.2.now) (ended r.1 (with_item h (item_from pair r.0)))) (run (lexemes bytes.now tokens.now) (statement_awaited (heading_of h pair id))) }
-    ensures shorter { IfOk result (λ r. length r.2.now < length tokens.now) }
+        Goes result (λ r. run (lexemes bytes.now r.2) (ended r.1 (with_item h (item_from pair r.0)))) (run (lexemes bytes.now tokens.entry) (statement_awaited (heading_of h pair id))) }
+    ensures shorter { IfOk result (λ r. length r.2 < length tokens.entry) }
 {
     let (pred, rest) = pred_part(alloc, bytes, tokens)?;
     let (path, rest, _left) = path_of(alloc, bytes, rest, NESTING, NAMES)?;
@@ -161,11 +157,11 @@ fn plain<'a>(
     alloc: Global,
     id: &[u8],
     bytes: &[u8],
-    tokens: &'a [Token],
-) -> Result<(Entry, &'a [Token]), ReadError>
+    tokens: Cursor<'a>,
+) -> Result<(Entry, Cursor<'a>), ReadError>
     ensures goes { (h : Head) →
-        Goes result (λ r. run (lexemes bytes.now r.1.now) (after_entry r.0 h)) (run (lexemes bytes.now tokens.now) (statement_awaited (heading_of h None id.now))) }
-    ensures shorter { IfOk result (λ r. length r.1.now < length tokens.now) }
+        Goes result (λ r. run (lexemes bytes.now r.1) (after_entry r.0 h)) (run (lexemes bytes.now tokens.entry) (statement_awaited (heading_of h None id.now))) }
+    ensures shorter { IfOk result (λ r. length r.1 < length tokens.entry) }
 {
     let id = name_from(alloc, id)?;
     let (statement, end, rest) = statement(alloc, id, bytes, tokens)?;
@@ -173,10 +169,10 @@ fn plain<'a>(
 }
 
 /// The two names after `foreach`, which stand for nothing else.
-fn variables(tokens: &[Token]) -> Result<&[Token], ReadError>
+fn variables<'a>(tokens: Cursor<'a>) -> Result<Cursor<'a>, ReadError>
     ensures goes { (bytes : List ℕ) (k : List Awaited) (n : ℕ) →
-        Goes result (λ r. run (lexemes bytes r.now) (at k n)) (run (lexemes bytes tokens.now) (at (this_sign signs.OpenGroup ∷ any_name ∷ this_sign signs.Comma ∷ any_name ∷ this_sign signs.CloseGroup ∷ k) n)) }
-    ensures shorter { IfOk result (λ r. length r.now < length tokens.now) }
+        Goes result (λ r. run (lexemes bytes r) (at k n)) (run (lexemes bytes tokens.entry) (at (this_sign signs.OpenGroup ∷ any_name ∷ this_sign signs.Comma ∷ any_name ∷ this_sign signs.CloseGroup ∷ k) n)) }
+    ensures shorter { IfOk result (λ r. length r < length tokens.entry) }
 {
     let rest = sign_at(Sign::OpenGroup, tokens)?;
     let rest = any_name_at(rest)?;
@@ -189,11 +185,11 @@ fn variables(tokens: &[Token]) -> Result<&[Token], ReadError>
 fn crossed<'a>(
     alloc: Global,
     bytes: &[u8],
-    tokens: &'a [Token],
-) -> Result<(Name, Name, &'a [Token]), ReadError>
+    tokens: Cursor<'a>,
+) -> Result<(Name, Name, Cursor<'a>), ReadError>
     ensures goes { (h : Head) →
-        Goes result (λ r. run (lexemes bytes.now r.2.now) (at (this_sign signs.CloseGroup ∷ this_sign signs.Colon ∷ each_id h r.0 r.1 ∷ []) 0)) (run (lexemes bytes.now tokens.now) (at (this_word words.In ∷ this_word words.Cross ∷ this_sign signs.OpenGroup ∷ outer_set h ∷ []) 0)) }
-    ensures shorter { IfOk result (λ r. length r.2.now < length tokens.now) }
+        Goes result (λ r. run (lexemes bytes.now r.2) (at (this_sign signs.CloseGroup ∷ this_sign signs.Colon ∷ each_id h r.0 r.1 ∷ []) 0)) (run (lexemes bytes.now tokens.entry) (at (this_word words.In ∷ this_word words.Cross ∷ this_sign signs.OpenGroup ∷ outer_set h ∷ []) 0)) }
+    ensures shorter { IfOk result (λ r. length r.2 < length tokens.entry) }
 {
     let rest = word_at(Word::In, tokens)?;
     let rest = word_at(Word::Cross, rest)?;
@@ -208,12 +204,12 @@ fn crossed<'a>(
 fn for_each<'a>(
     alloc: Global,
     bytes: &[u8],
-    tokens: &'a [Token],
-) -> Result<(Entry, &'a [Token]), ReadError>
+    tokens: Cursor<'a>,
+) -> Result<(Entry, Cursor<'a>), ReadError>
     ensures goes { (h : Head) →
-        Goes result (λ r. run (lexemes bytes.now r.1.now) (after_entry r.0 h)) (run (lexemes bytes.now tokens.now)
+        Goes result (λ r. run (lexemes bytes.now r.1) (after_entry r.0 h)) (run (lexemes bytes.now tokens.entry)
         (at (this_sign signs.OpenGroup ∷ any_name ∷ this_sign signs.Comma ∷ any_name ∷ this_sign signs.CloseGroup ∷ this_word words.In ∷ this_word words.Cross ∷ this_sign signs.OpenGroup ∷ outer_set h ∷ []) 0)) }
-    ensures shorter { IfOk result (λ r. length r.1.now < length tokens.now) }
+    ensures shorter { IfOk result (λ r. length r.1 < length tokens.entry) }
 {
     let rest = variables(tokens)?;
     let (outer, inner, rest) = crossed(alloc, bytes, rest)?;
@@ -233,31 +229,22 @@ fn for_each<'a>(
 fn default_path<'a>(
     alloc: Global,
     bytes: &[u8],
-    tokens: &'a [Token],
-) -> Result<(Entry, &'a [Token]), ReadError>
+    tokens: Cursor<'a>,
+) -> Result<(Entry, Cursor<'a>), ReadError>
     ensures goes { (h : Head) →
-        Goes result (λ r. run (lexemes bytes.now r.1.now) (after_entry r.0 h)) (run (lexemes bytes.now tokens.now) (at (this_sign signs.Arrow ∷ rep ∷ reps [] ∷ alts [] ∷ default_awaited h ∷ []) 2048)) }
-    ensures shorter { IfOk result (λ r. length r.1.now < length tokens.now) }
+        Goes result (λ r. run (lexemes bytes.now r.1) (after_entry r.0 h)) (run (lexemes bytes.now tokens.entry) (at (this_sign signs.Arrow ∷ rep ∷ reps [] ∷ alts [] ∷ default_awaited h ∷ []) 2048)) }
+    ensures shorter { IfOk result (λ r. length r.1 < length tokens.entry) }
 {
     let rest = sign_at(Sign::Arrow, tokens)?;
     let (path, rest, _left) = path_of(alloc, bytes, rest, NESTING, NAMES)?;
-    match rest {
-        [
-            Token {
-                kind: Kind::Sign(Sign::CloseList),
-                ..
-            },
-            rest @ ..,
-        ] => Ok((Entry::Default(path), rest)),
-        [
-            Token {
-                kind: Kind::Sign(Sign::Semicolon),
-                ..
-            },
-            rest @ ..,
-        ] => {
-            let rest = sign_at(Sign::CloseList, rest)?;
-            Ok((Entry::Default(path), rest))
+    let Some((first, after)) = rest.split_first() else {
+        return Err(ReadError::Syntax(0));
+    };
+    match first.kind {
+        Kind::Sign(Sign::CloseList) => Ok((Entry::Default(path), after)),
+        Kind::Sign(Sign::Semicolon) => {
+            let after = sign_at(Sign::CloseList, after)?;
+            Ok((Entry::Default(path), after))
         }
         _ => Err(ReadError::Syntax(rest.len())),
     }
@@ -267,13 +254,13 @@ fn default_path<'a>(
 fn entry_of<'a>(
     alloc: Global,
     bytes: &[u8],
-    tokens: &'a [Token],
-) -> Result<(Entry, &'a [Token]), ReadError>
+    tokens: Cursor<'a>,
+) -> Result<(Entry, Cursor<'a>), ReadError>
     ensures goes { (h : Head) →
-        Goes result (λ r. run (lexemes bytes.now r.1.now) (after_entry r.0 h)) (run (lexemes bytes.now tokens.now) (at (item h ∷ []) 0)) }
-    ensures shorter { IfOk result (λ r. length r.1.now < length tokens.now) }
+        Goes result (λ r. run (lexemes bytes.now r.1) (after_entry r.0 h)) (run (lexemes bytes.now tokens.entry) (at (item h ∷ []) 0)) }
+    ensures shorter { IfOk result (λ r. length r.1 < length tokens.entry) }
 {
-    let [first, rest @ ..] = tokens else {
+    let Some((first, rest)) = tokens.split_first() else {
         return Err(ReadError::Syntax(0));
     };
     match first.kind {
@@ -289,10 +276,10 @@ fn entry_of<'a>(
 pub(crate) fn items<'a>(
     alloc: Global,
     bytes: &[u8],
-    tokens: &'a [Token],
-) -> Result<(Items<Item>, Option<RawPath>, &'a [Token]), ReadError>
+    tokens: Cursor<'a>,
+) -> Result<(Items<Item>, Option<RawPath>, Cursor<'a>), ReadError>
     ensures { (sets : List WrittenSet) →
-        Goes result (λ r. run (lexemes bytes.now r.2.now) (at (formula (policy_of sets r.0 r.1 []) ∷ []) 0)) (run (lexemes bytes.now tokens.now) (at (item (record { sets = sets; items = [] }) ∷ []) 0)) }
+        Goes result (λ r. run (lexemes bytes.now r.2) (at (formula (policy_of sets r.0 r.1 []) ∷ []) 0)) (run (lexemes bytes.now tokens.entry) (at (item (record { sets = sets; items = [] }) ∷ []) 0)) }
 {
     let mut items = Items::new(alloc);
     let mut rest = tokens;

@@ -7,7 +7,7 @@ ghost use Rattle.policy_parser.specs.Policies.{IsWritten, IsRead, IsRefused, IsR
 
 use crate::fault::{PolicyFault, ReadError};
 use crate::reading::read_policy;
-use merlin_text::{Token, tokens};
+use merlin_text::{Cursor, scan};
 use policy_expansion::{Policy, expand};
 use policy_grammar::written::WrittenPolicy;
 use std::alloc::Global;
@@ -36,31 +36,45 @@ fn written(alloc: Global, bytes: &[u8]) -> Result<WrittenPolicy, PolicyFault>
     ensures ok { IfOk result (IsWritten bytes.now) }
     ensures err { IfErr result (λ fault. IsRefused fault bytes.now) }
 {
-    match tokens(alloc, bytes) {
-        Ok(tokens) => read(alloc, bytes, &tokens),
+    match scan(bytes) {
+        Ok(tokens) => read(alloc, bytes, tokens),
         Err(fault) => Err(PolicyFault::from(fault)),
     }
 }
 
 // The policy of these tokens as it is written.
-fn read(alloc: Global, bytes: &[u8], tokens: &[Token]) -> Result<WrittenPolicy, PolicyFault>
-    ensures { IsRead bytes.now tokens.now result }
+fn read(
+    alloc: Global,
+    bytes: &[u8],
+    tokens: Cursor<'_>,
+) -> Result<WrittenPolicy, PolicyFault>
+    ensures { IsRead bytes.now tokens.entry result }
 {
-    match read_policy(alloc, bytes, tokens) {
+    let count = tokens.len();
+    match read_policy(alloc, bytes, tokens.copy()) {
         Ok(policy) => Ok(policy),
         Err(ReadError::Memory) => Err(PolicyFault::OutOfMemory),
         Err(ReadError::Syntax(left)) => Err(PolicyFault::Syntax {
-            at: place_of(bytes, tokens, tokens.len() - left),
+            at: place_of(bytes, tokens, count - left),
         }),
     }
 }
 
 // The byte at which a token starts, by its number; the end past the last one.
-fn place_of(bytes: &[u8], tokens: &[Token], number: usize) -> usize
-    ensures { result ≡ place bytes.now tokens.now number }
+fn place_of(bytes: &[u8], tokens: Cursor<'_>, number: usize) -> usize
+    ensures { result ≡ place bytes.now tokens.entry number }
 {
-    match tokens.get(number) {
-        Some(token) => token.span.start,
+    let mut rest = tokens;
+    let mut before = number;
+    'skipped: while 0 < before {
+        let Some((_token, others)) = rest.split_first() else {
+            return bytes.len();
+        };
+        rest = others;
+        before -= 1;
+    }
+    match rest.split_first() {
+        Some((token, _others)) => token.span.start,
         None => bytes.len(),
     }
 }

@@ -10,27 +10,27 @@ ghost use Rattle.policy_parser.specs.Goes.{Goes, IsInSequence, begins_list, star
 use crate::fault::ReadError;
 use crate::signs::text;
 use merlin_model::name::name_from;
-use merlin_text::{Kind, Sign, Token};
+use merlin_text::{Cursor, Kind, Sign, Token};
 use policy_grammar::written::RawPath;
 use sqlite_items::{Boxed, Items};
 use std::alloc::Global;
 
 /// Whether there are stars, and what follows them.
-fn stars(tokens: &[Token]) -> (bool, &[Token])
+fn stars<'a>(tokens: Cursor<'a>) -> (bool, Cursor<'a>)
     ensures goes { (bytes : List ℕ) (p : RawPath) (k : List Awaited) (n : ℕ) →
-        run (lexemes bytes tokens.now) (at (prim p false ∷ k) n) ≡ run (lexemes bytes result.1.now) (at (prim p result.0 ∷ k) n) }
-    ensures all { (bytes : List ℕ) → stars_list (lexemes bytes result.1.now) ≡ false }
-    ensures shorter { length result.1.now ≤ length tokens.now }
+        run (lexemes bytes tokens.entry) (at (prim p false ∷ k) n) ≡ run (lexemes bytes result.1) (at (prim p result.0 ∷ k) n) }
+    ensures all { (bytes : List ℕ) → stars_list (lexemes bytes result.1) ≡ false }
+    ensures shorter { length result.1 ≤ length tokens.entry }
 {
     let mut found = false;
     let mut rest = tokens;
-    while let [
+    'stars: while let Some((
         Token {
             kind: Kind::Sign(Sign::Star),
             ..
         },
-        others @ ..,
-    ] = rest
+        others,
+    )) = rest.split_first()
     {
         found = true;
         rest = others;
@@ -39,14 +39,13 @@ fn stars(tokens: &[Token]) -> (bool, &[Token])
 }
 
 /// A path with the stars after it, and what follows them.
-fn with_stars(
+fn with_stars<'a>(
     alloc: Global,
     path: RawPath,
-    tokens: &[Token],
-) -> Result<(RawPath, &[Token]), ReadError>
+    tokens: Cursor<'a>) -> Result<(RawPath, Cursor<'a>), ReadError>
     ensures goes { (bytes : List ℕ) (k : List Awaited) (n : ℕ) → IsInSequence k →
-        Goes result (λ r. run (lexemes bytes r.1.now) (at (put_path r.0 k) n)) (run (lexemes bytes tokens.now) (at (prim path false ∷ k) n)) }
-    ensures shorter { IfOk result (λ r. length r.1.now ≤ length tokens.now) }
+        Goes result (λ r. run (lexemes bytes r.1) (at (put_path r.0 k) n)) (run (lexemes bytes tokens.entry) (at (prim path false ∷ k) n)) }
+    ensures shorter { IfOk result (λ r. length r.1 ≤ length tokens.entry) }
 {
     let (found, rest) = stars(tokens);
     if found {
@@ -87,18 +86,18 @@ fn alt(mut parts: Items<RawPath>) -> RawPath
 fn rep<'a>(
     alloc: Global,
     bytes: &[u8],
-    tokens: &'a [Token],
+    tokens: Cursor<'a>,
     room: usize,
     left: usize,
-) -> Result<(RawPath, &'a [Token], usize), ReadError>
+) -> Result<(RawPath, Cursor<'a>, usize), ReadError>
     ensures goes { (k : List Awaited) → IsInSequence k → opens k + room ≡ 128 →
-        Goes result (λ r. run (lexemes bytes.now r.1.now) (at (put_path r.0 k) r.2)) (run (lexemes bytes.now tokens.now) (at (rep_awaited ∷ k) left)) }
-    ensures shorter { IfOk result (λ r. length r.1.now < length tokens.now) }
+        Goes result (λ r. run (lexemes bytes.now r.1) (at (put_path r.0 k) r.2)) (run (lexemes bytes.now tokens.entry) (at (rep_awaited ∷ k) left)) }
+    ensures shorter { IfOk result (λ r. length r.1 < length tokens.entry) }
 {
     if left == 0 {
         return Err(ReadError::Syntax(tokens.len()));
     }
-    let [first, rest @ ..] = tokens else {
+    let Some((first, rest)) = tokens.split_first() else {
         return Err(ReadError::Syntax(0));
     };
     match first.kind {
@@ -127,43 +126,37 @@ fn rep<'a>(
 fn group<'a>(
     alloc: Global,
     bytes: &[u8],
-    tokens: &'a [Token],
+    tokens: Cursor<'a>,
     room: usize,
     left: usize,
-) -> Result<(RawPath, &'a [Token], usize), ReadError>
+) -> Result<(RawPath, Cursor<'a>, usize), ReadError>
     ensures goes { (k : List Awaited) → IsInSequence k → opens k + 1 + room ≡ 128 →
-        Goes result (λ r. run (lexemes bytes.now r.1.now) (at (put_path r.0 k) r.2)) (run (lexemes bytes.now tokens.now) (at (rep_awaited ∷ reps [] ∷ alts [] ∷ path_bracket ∷ k) left)) }
-    ensures shorter { IfOk result (λ r. length r.1.now < length tokens.now) }
+        Goes result (λ r. run (lexemes bytes.now r.1) (at (put_path r.0 k) r.2)) (run (lexemes bytes.now tokens.entry) (at (rep_awaited ∷ reps [] ∷ alts [] ∷ path_bracket ∷ k) left)) }
+    ensures shorter { IfOk result (λ r. length r.1 < length tokens.entry) }
 {
     let (path, rest, left) = path_of(alloc, bytes, tokens, room, left)?;
-    match rest {
-        [
-            Token {
-                kind: Kind::Sign(Sign::CloseGroup),
-                ..
-            },
-            rest @ ..,
-        ] => {
-            let (path, rest) = with_stars(alloc, path, rest)?;
+    let Some((first, after)) = rest.split_first() else {
+        return Err(ReadError::Syntax(0));
+    };
+    match first.kind {
+        Kind::Sign(Sign::CloseGroup) => {
+            let (path, rest) = with_stars(alloc, path, after)?;
             Ok((path, rest, left))
         }
         _ => Err(ReadError::Syntax(rest.len())),
     }
 }
 
-fn begins_rep(tokens: &[Token]) -> bool
+fn begins_rep(tokens: &Cursor<'_>) -> bool
     ensures { (bytes : List ℕ) → result ≡ begins_list (lexemes bytes tokens.now) }
 {
-    matches!(
-        tokens,
-        [
-            Token {
-                kind: Kind::Name | Kind::Sign(Sign::Bang | Sign::OpenGroup | Sign::Dot),
-                ..
-            },
-            ..
-        ]
-    )
+    match tokens.split_first() {
+        Some((first, _rest)) => matches!(
+            first.kind,
+            Kind::Name | Kind::Sign(Sign::Bang | Sign::OpenGroup | Sign::Dot)
+        ),
+        None => false,
+    }
 }
 
 /// Such paths one after another.
@@ -172,18 +165,18 @@ fn begins_rep(tokens: &[Token]) -> bool
 fn sequence<'a>(
     alloc: Global,
     bytes: &[u8],
-    tokens: &'a [Token],
+    tokens: Cursor<'a>,
     room: usize,
     left: usize,
-) -> Result<(RawPath, &'a [Token], usize), ReadError>
+) -> Result<(RawPath, Cursor<'a>, usize), ReadError>
     ensures goes { (k : List Awaited) (ps : List RawPath) → opens k + room ≡ 128 →
-        Goes result (λ r. run (lexemes bytes.now r.1.now) (at (alts (ps ++ r.0 ∷ []) ∷ k) r.2)) (run (lexemes bytes.now tokens.now) (at (rep_awaited ∷ reps [] ∷ alts ps ∷ k) left)) }
-    ensures shorter { IfOk result (λ r. length r.1.now < length tokens.now) }
+        Goes result (λ r. run (lexemes bytes.now r.1) (at (alts (ps ++ r.0 ∷ []) ∷ k) r.2)) (run (lexemes bytes.now tokens.entry) (at (rep_awaited ∷ reps [] ∷ alts ps ∷ k) left)) }
+    ensures shorter { IfOk result (λ r. length r.1 < length tokens.entry) }
 {
     let mut parts = Items::new(alloc);
     let (path, mut rest, mut spare) = rep(alloc, bytes, tokens, room, left)?;
     parts.push(path)?;
-    'reps: while begins_rep(rest) {
+    'reps: while begins_rep(&rest) {
         let (path, others, fewer) = rep(alloc, bytes, rest, room, spare)?;
         parts.push(path)?;
         rest = others;
@@ -198,27 +191,24 @@ fn sequence<'a>(
 pub(crate) fn path_of<'a>(
     alloc: Global,
     bytes: &[u8],
-    tokens: &'a [Token],
+    tokens: Cursor<'a>,
     room: usize,
     left: usize,
-) -> Result<(RawPath, &'a [Token], usize), ReadError>
+) -> Result<(RawPath, Cursor<'a>, usize), ReadError>
     ensures goes { (k : List Awaited) → opens k + room ≡ 128 →
-        Goes result (λ r. run (lexemes bytes.now r.1.now) (at (whole_path r.0 ∷ k) r.2)) (run (lexemes bytes.now tokens.now) (at (rep_awaited ∷ reps [] ∷ alts [] ∷ k) left)) }
-    ensures shorter { IfOk result (λ r. length r.1.now < length tokens.now) }
+        Goes result (λ r. run (lexemes bytes.now r.1) (at (whole_path r.0 ∷ k) r.2)) (run (lexemes bytes.now tokens.entry) (at (rep_awaited ∷ reps [] ∷ alts [] ∷ k) left)) }
+    ensures shorter { IfOk result (λ r. length r.1 < length tokens.entry) }
 {
     let mut parts = Items::new(alloc);
     let (path, mut rest, mut spare) = sequence(alloc, bytes, tokens, room, left)?;
     parts.push(path)?;
     'alternatives: loop {
-        match rest {
-            [
-                Token {
-                    kind: Kind::Sign(Sign::Bar),
-                    ..
-                },
-                others @ ..,
-            ] if 0 < spare => {
-                let (path, others, fewer) = sequence(alloc, bytes, others, room, spare)?;
+        let Some((first, after)) = rest.split_first() else {
+            return Ok((alt(parts), rest, spare));
+        };
+        match first.kind {
+            Kind::Sign(Sign::Bar) if 0 < spare => {
+                let (path, others, fewer) = sequence(alloc, bytes, after, room, spare)?;
                 parts.push(path)?;
                 rest = others;
                 spare = fewer;

@@ -7,13 +7,13 @@ ghost use Rattle.merlin_model.specs.declared.policy.Test.TheVariants.{Port};
 ghost use Rattle.merlin_text.specs.declared.token.Sign.TheVariants as signs;
 ghost use Rattle.policy_grammar.specs.Lexemes.{lexeme, lexemes};
 ghost use Rattle.policy_grammar.specs.Predicates.{test_of, all_of, any_of};
-ghost use Rattle.policy_grammar.specs.Machine.{Awaited, this_sign, literal as literal_awaited, lits, conjs, whole_pred, second, value_of, is_first as is_first_name, field_at, put, opens, run, at};
+ghost use Rattle.policy_grammar.specs.Machine.{Awaited, this_sign, literal as literal_awaited, lits, conjs, whole_pred, bracket, second, value_of, is_first as is_first_name, field_at, put, opens, run, at};
 ghost use Rattle.policy_parser.specs.Goes.{Goes};
 
 use crate::fault::ReadError;
 use crate::signs::{sign_at, text};
 use merlin_model::policy::{Field, Pred, Test};
-use merlin_text::{Kind, Sign, Token, Word};
+use merlin_text::{Cursor, Kind, Sign, Token, Word};
 use policy_grammar::written::Tested;
 use sqlite_items::{Boxed, Items};
 use std::alloc::Global;
@@ -103,20 +103,17 @@ fn test_with(field: Tested, value: Token) -> Option<Test>
 fn field_part<'a>(
     first: &[u8],
     bytes: &[u8],
-    tokens: &'a [Token],
-) -> Result<(Tested, &'a [Token]), ReadError>
+    tokens: Cursor<'a>,
+) -> Result<(Tested, Cursor<'a>), ReadError>
     ensures goes { (k : List Awaited) (n : ℕ) →
-        Goes result (λ r. run (lexemes bytes.now r.1.now) (at (this_sign signs.Equals ∷ value_of r.0 ∷ k) n)) (run (lexemes bytes.now tokens.now) (at (second first.now ∷ k) n)) }
-    ensures shorter { IfOk result (λ r. length r.1.now < length tokens.now) }
+        Goes result (λ r. run (lexemes bytes.now r.1) (at (this_sign signs.Equals ∷ value_of r.0 ∷ k) n)) (run (lexemes bytes.now tokens.entry) (at (second first.now ∷ k) n)) }
+    ensures shorter { IfOk result (λ r. length r.1 < length tokens.entry) }
 {
-    match tokens {
-        [
-            Token {
-                kind: Kind::Name,
-                span,
-            },
-            rest @ ..,
-        ] => match field_of(first, text(bytes, *span)) {
+    let Some((second, rest)) = tokens.split_first() else {
+        return Err(ReadError::Syntax(0));
+    };
+    match second.kind {
+        Kind::Name => match field_of(first, text(bytes, second.span)) {
             Some(field) => Ok((field, rest)),
             None => Err(ReadError::Syntax(tokens.len())),
         },
@@ -124,17 +121,17 @@ fn field_part<'a>(
     }
 }
 
-fn value_part(field: Tested, tokens: &[Token]) -> Result<(Test, &[Token]), ReadError>
+fn value_part<'a>(field: Tested, tokens: Cursor<'a>) -> Result<(Test, Cursor<'a>), ReadError>
     ensures goes { (bytes : List ℕ) (k : List Awaited) (n : ℕ) →
-        Goes result (λ r. run (lexemes bytes r.1.now) (at (put (Tests r.0) k) n)) (run (lexemes bytes tokens.now) (at (value_of field ∷ k) n)) }
-    ensures shorter { IfOk result (λ r. length r.1.now < length tokens.now) }
+        Goes result (λ r. run (lexemes bytes r.1) (at (put (Tests r.0) k) n)) (run (lexemes bytes tokens.entry) (at (value_of field ∷ k) n)) }
+    ensures shorter { IfOk result (λ r. length r.1 < length tokens.entry) }
 {
-    match tokens {
-        [value, rest @ ..] => match test_with(field, *value) {
-            Some(test) => Ok((test, rest)),
-            None => Err(ReadError::Syntax(tokens.len())),
-        },
-        [] => Err(ReadError::Syntax(0)),
+    let Some((value, rest)) = tokens.split_first() else {
+        return Err(ReadError::Syntax(0));
+    };
+    match test_with(field, value) {
+        Some(test) => Ok((test, rest)),
+        None => Err(ReadError::Syntax(tokens.len())),
     }
 }
 
@@ -142,11 +139,11 @@ fn value_part(field: Tested, tokens: &[Token]) -> Result<(Test, &[Token]), ReadE
 fn test_after<'a>(
     first: &[u8],
     bytes: &[u8],
-    tokens: &'a [Token],
-) -> Result<(Test, &'a [Token]), ReadError>
+    tokens: Cursor<'a>,
+) -> Result<(Test, Cursor<'a>), ReadError>
     ensures goes { (k : List Awaited) (n : ℕ) →
-        Goes result (λ r. run (lexemes bytes.now r.1.now) (at (put (Tests r.0) k) n)) (run (lexemes bytes.now tokens.now) (at (this_sign signs.Dot ∷ second first.now ∷ k) n)) }
-    ensures shorter { IfOk result (λ r. length r.1.now < length tokens.now) }
+        Goes result (λ r. run (lexemes bytes.now r.1) (at (put (Tests r.0) k) n)) (run (lexemes bytes.now tokens.entry) (at (this_sign signs.Dot ∷ second first.now ∷ k) n)) }
+    ensures shorter { IfOk result (λ r. length r.1 < length tokens.entry) }
 {
     let rest = sign_at(Sign::Dot, tokens)?;
     let (field, rest) = field_part(first, bytes, rest)?;
@@ -178,21 +175,36 @@ fn any(mut parts: Items<Pred>) -> Pred
     Pred::AnyOf(parts)
 }
 
+/// What follows the bracket that closes a predicate.
+fn after_bracket<'a>(tokens: Cursor<'a>) -> Result<Cursor<'a>, ReadError>
+    ensures goes { (bytes : List ℕ) (pred : Pred) (k : List Awaited) (n : ℕ) →
+        Goes result (λ r. run (lexemes bytes r) (at (put pred k) n)) (run (lexemes bytes tokens.entry) (at (whole_pred pred ∷ bracket ∷ k) n)) }
+    ensures shorter { IfOk result (λ r. length r < length tokens.entry) }
+{
+    let Some((first, rest)) = tokens.split_first() else {
+        return Err(ReadError::Syntax(0));
+    };
+    match first.kind {
+        Kind::Sign(Sign::CloseGroup) => Ok(rest),
+        _ => Err(ReadError::Syntax(tokens.len())),
+    }
+}
+
 /// A literal. `room` is how many brackets and bangs may still be opened, `left` how many tests may still come; what is left of these
 /// is given back.
 #[cycle(predicate)]
 fn literal<'a>(
     alloc: Global,
     bytes: &[u8],
-    tokens: &'a [Token],
+    tokens: Cursor<'a>,
     room: usize,
     left: usize,
-) -> Result<(Pred, &'a [Token], usize), ReadError>
+) -> Result<(Pred, Cursor<'a>, usize), ReadError>
     ensures goes { (k : List Awaited) → opens k + room ≡ 128 →
-        Goes result (λ r. run (lexemes bytes.now r.1.now) (at (put r.0 k) r.2)) (run (lexemes bytes.now tokens.now) (at (literal_awaited ∷ k) left)) }
-    ensures shorter { IfOk result (λ r. length r.1.now < length tokens.now) }
+        Goes result (λ r. run (lexemes bytes.now r.1) (at (put r.0 k) r.2)) (run (lexemes bytes.now tokens.entry) (at (literal_awaited ∷ k) left)) }
+    ensures shorter { IfOk result (λ r. length r.1 < length tokens.entry) }
 {
-    let [first, rest @ ..] = tokens else {
+    let Some((first, rest)) = tokens.split_first() else {
         return Err(ReadError::Syntax(0));
     };
     match first.kind {
@@ -202,16 +214,7 @@ fn literal<'a>(
         }
         Kind::Sign(Sign::OpenGroup) if 0 < room => {
             let (pred, rest, left) = predicate(alloc, bytes, rest, room - 1, left)?;
-            match rest {
-                [
-                    Token {
-                        kind: Kind::Sign(Sign::CloseGroup),
-                        ..
-                    },
-                    rest @ ..,
-                ] => Ok((pred, rest, left)),
-                _ => Err(ReadError::Syntax(rest.len())),
-            }
+            Ok((pred, after_bracket(rest)?, left))
         }
         Kind::Word(Word::True) => Ok((Pred::Yes, rest, left)),
         Kind::Word(Word::False) => Ok((Pred::No, rest, left)),
@@ -228,24 +231,24 @@ fn literal<'a>(
 fn conjunction<'a>(
     alloc: Global,
     bytes: &[u8],
-    tokens: &'a [Token],
+    tokens: Cursor<'a>,
     room: usize,
     left: usize,
-) -> Result<(Pred, &'a [Token], usize), ReadError>
+) -> Result<(Pred, Cursor<'a>, usize), ReadError>
     ensures goes { (k : List Awaited) (ps : List Pred) → opens k + room ≡ 128 →
-        Goes result (λ r. run (lexemes bytes.now r.1.now) (at (conjs (ps ++ r.0 ∷ []) ∷ k) r.2)) (run (lexemes bytes.now tokens.now) (at (literal_awaited ∷ lits [] ∷ conjs ps ∷ k) left)) }
-    ensures shorter { IfOk result (λ r. length r.1.now < length tokens.now) }
+        Goes result (λ r. run (lexemes bytes.now r.1) (at (conjs (ps ++ r.0 ∷ []) ∷ k) r.2)) (run (lexemes bytes.now tokens.entry) (at (literal_awaited ∷ lits [] ∷ conjs ps ∷ k) left)) }
+    ensures shorter { IfOk result (λ r. length r.1 < length tokens.entry) }
 {
     let mut parts = Items::new(alloc);
     let (pred, mut rest, mut spare) = literal(alloc, bytes, tokens, room, left)?;
     parts.push(pred)?;
-    while let [
+    'literals: while let Some((
         Token {
             kind: Kind::Word(Word::And),
             ..
         },
-        others @ ..,
-    ] = rest
+        others,
+    )) = rest.split_first()
     {
         let (pred, others, fewer) = literal(alloc, bytes, others, room, spare)?;
         parts.push(pred)?;
@@ -260,24 +263,24 @@ fn conjunction<'a>(
 pub(crate) fn predicate<'a>(
     alloc: Global,
     bytes: &[u8],
-    tokens: &'a [Token],
+    tokens: Cursor<'a>,
     room: usize,
     left: usize,
-) -> Result<(Pred, &'a [Token], usize), ReadError>
+) -> Result<(Pred, Cursor<'a>, usize), ReadError>
     ensures goes { (k : List Awaited) → opens k + room ≡ 128 →
-        Goes result (λ r. run (lexemes bytes.now r.1.now) (at (whole_pred r.0 ∷ k) r.2)) (run (lexemes bytes.now tokens.now) (at (literal_awaited ∷ lits [] ∷ conjs [] ∷ k) left)) }
-    ensures shorter { IfOk result (λ r. length r.1.now < length tokens.now) }
+        Goes result (λ r. run (lexemes bytes.now r.1) (at (whole_pred r.0 ∷ k) r.2)) (run (lexemes bytes.now tokens.entry) (at (literal_awaited ∷ lits [] ∷ conjs [] ∷ k) left)) }
+    ensures shorter { IfOk result (λ r. length r.1 < length tokens.entry) }
 {
     let mut parts = Items::new(alloc);
     let (pred, mut rest, mut spare) = conjunction(alloc, bytes, tokens, room, left)?;
     parts.push(pred)?;
-    while let [
+    'conjunctions: while let Some((
         Token {
             kind: Kind::Word(Word::Or),
             ..
         },
-        others @ ..,
-    ] = rest
+        others,
+    )) = rest.split_first()
     {
         let (pred, others, fewer) = conjunction(alloc, bytes, others, room, spare)?;
         parts.push(pred)?;

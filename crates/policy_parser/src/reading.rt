@@ -10,7 +10,7 @@ use crate::fault::ReadError;
 use crate::items::items;
 use crate::sets::sets;
 use crate::terms::formula_of;
-use merlin_text::Token;
+use merlin_text::Cursor;
 use policy_grammar::written::WrittenPolicy;
 use std::alloc::Global;
 
@@ -18,9 +18,9 @@ use std::alloc::Global;
 pub fn read_policy(
     alloc: Global,
     bytes: &[u8],
-    tokens: &[Token],
+    tokens: Cursor<'_>,
 ) -> Result<WrittenPolicy, ReadError>
-    ensures { Goes result (λ policy. (let r : Result WrittenPolicy ℕ = Ok policy in r)) (run (lexemes bytes.now tokens.now) start) }
+    ensures { Goes result (λ policy. (let r : Result WrittenPolicy ℕ = Ok policy in r)) (run (lexemes bytes.now tokens.entry) start) }
 {
     let (sets, rest) = sets(alloc, bytes, tokens)?;
     let (items, default_path, rest) = items(alloc, bytes, rest)?;

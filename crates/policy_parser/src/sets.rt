@@ -11,18 +11,18 @@ ghost use Rattle.policy_parser.specs.Goes.{Goes};
 use crate::fault::ReadError;
 use crate::signs::{sign_at, text};
 use merlin_model::name::name_from;
-use merlin_text::{Kind, Sign, Token};
+use merlin_text::{Cursor, Kind, Sign, Token};
 use policy_grammar::written::{Literal, WrittenSet};
 use sqlite_items::Items;
 use std::alloc::Global;
 
 /// An address of a set, and what follows it.
-fn literal_at(tokens: &[Token]) -> Result<(Literal, &[Token]), ReadError>
+fn literal_at<'a>(tokens: Cursor<'a>) -> Result<(Literal, Cursor<'a>), ReadError>
     ensures goes { (bytes : List ℕ) (ss : List WrittenSet) (name : List ℕ) (ls : List Literal) →
-        Goes result (λ r. run (lexemes bytes r.1.now) (at (set_rest ss name (ls ++ r.0 ∷ []) ∷ []) 0)) (run (lexemes bytes tokens.now) (at (set_more ss name ls ∷ []) 0)) }
-    ensures shorter { IfOk result (λ r. length r.1.now < length tokens.now) }
+        Goes result (λ r. run (lexemes bytes r.1) (at (set_rest ss name (ls ++ r.0 ∷ []) ∷ []) 0)) (run (lexemes bytes tokens.entry) (at (set_more ss name ls ∷ []) 0)) }
+    ensures shorter { IfOk result (λ r. length r.1 < length tokens.entry) }
 {
-    let [first, rest @ ..] = tokens else {
+    let Some((first, rest)) = tokens.split_first() else {
         return Err(ReadError::Syntax(0));
     };
     match first.kind {
@@ -33,19 +33,19 @@ fn literal_at(tokens: &[Token]) -> Result<(Literal, &[Token]), ReadError>
 }
 
 /// The addresses up to the end of a set.
-fn literals(alloc: Global, tokens: &[Token]) -> Result<(Items<Literal>, &[Token]), ReadError>
+fn literals<'a>(alloc: Global, tokens: Cursor<'a>) -> Result<(Items<Literal>, Cursor<'a>), ReadError>
     ensures goes { (bytes : List ℕ) (ss : List WrittenSet) (name : List ℕ) →
-        Goes result (λ r. run (lexemes bytes r.1.now) (at (sets_awaited (with_set ss name r.0) ∷ []) 0)) (run (lexemes bytes tokens.now) (at (set_start ss name ∷ []) 0)) }
-    ensures shorter { IfOk result (λ r. length r.1.now < length tokens.now) }
+        Goes result (λ r. run (lexemes bytes r.1) (at (sets_awaited (with_set ss name r.0) ∷ []) 0)) (run (lexemes bytes tokens.entry) (at (set_start ss name ∷ []) 0)) }
+    ensures shorter { IfOk result (λ r. length r.1 < length tokens.entry) }
 {
     let mut literals = Items::new(alloc);
-    if let [
+    if let Some((
         Token {
             kind: Kind::Sign(Sign::CloseSet),
             ..
         },
-        rest @ ..,
-    ] = tokens
+        rest,
+    )) = tokens.split_first()
     {
         return Ok((literals, rest));
     }
@@ -53,7 +53,7 @@ fn literals(alloc: Global, tokens: &[Token]) -> Result<(Items<Literal>, &[Token]
     'literals: loop {
         let (literal, others) = literal_at(rest)?;
         literals.push(literal)?;
-        let [first, after @ ..] = others else {
+        let Some((first, after)) = others.split_first() else {
             return Err(ReadError::Syntax(0));
         };
         match first.kind {
@@ -65,10 +65,10 @@ fn literals(alloc: Global, tokens: &[Token]) -> Result<(Items<Literal>, &[Token]
 }
 
 /// A set whose name is read.
-fn set_after(alloc: Global, tokens: &[Token]) -> Result<(Items<Literal>, &[Token]), ReadError>
+fn set_after<'a>(alloc: Global, tokens: Cursor<'a>) -> Result<(Items<Literal>, Cursor<'a>), ReadError>
     ensures goes { (bytes : List ℕ) (ss : List WrittenSet) (name : List ℕ) →
-        Goes result (λ r. run (lexemes bytes r.1.now) (at (sets_awaited (with_set ss name r.0) ∷ []) 0)) (run (lexemes bytes tokens.now) (at (this_sign signs.Becomes ∷ this_sign signs.OpenSet ∷ set_start ss name ∷ []) 0)) }
-    ensures shorter { IfOk result (λ r. length r.1.now < length tokens.now) }
+        Goes result (λ r. run (lexemes bytes r.1) (at (sets_awaited (with_set ss name r.0) ∷ []) 0)) (run (lexemes bytes tokens.entry) (at (this_sign signs.Becomes ∷ this_sign signs.OpenSet ∷ set_start ss name ∷ []) 0)) }
+    ensures shorter { IfOk result (λ r. length r.1 < length tokens.entry) }
 {
     let rest = sign_at(Sign::Becomes, tokens)?;
     let rest = sign_at(Sign::OpenSet, rest)?;
@@ -79,14 +79,14 @@ fn set_after(alloc: Global, tokens: &[Token]) -> Result<(Items<Literal>, &[Token
 pub(crate) fn sets<'a>(
     alloc: Global,
     bytes: &[u8],
-    tokens: &'a [Token],
-) -> Result<(Items<WrittenSet>, &'a [Token]), ReadError>
-    ensures { Goes result (λ r. run (lexemes bytes.now r.1.now) (at (item (record { sets = r.0; items = [] }) ∷ []) 0)) (run (lexemes bytes.now tokens.now) start) }
+    tokens: Cursor<'a>,
+) -> Result<(Items<WrittenSet>, Cursor<'a>), ReadError>
+    ensures { Goes result (λ r. run (lexemes bytes.now r.1) (at (item (record { sets = r.0; items = [] }) ∷ []) 0)) (run (lexemes bytes.now tokens.entry) start) }
 {
     let mut sets = Items::new(alloc);
     let mut rest = tokens;
     'sets: loop {
-        let [first, others @ ..] = rest else {
+        let Some((first, others)) = rest.split_first() else {
             return Err(ReadError::Syntax(0));
         };
         match first.kind {

@@ -12,7 +12,7 @@ ghost use Rattle.policy_parser.specs.Goes.{Goes, statement_awaited};
 use crate::fault::ReadError;
 use merlin_model::name::{Name, name_from};
 use merlin_model::policy::Bound;
-use merlin_text::{Kind, Sign, Span, Token, Word};
+use merlin_text::{Cursor, Kind, Sign, Span, Word};
 use std::alloc::Global;
 
 /// The bytes of a token; none where its ends are none of the text.
@@ -39,55 +39,46 @@ fn number_of_word(word: Word) -> u8
 }
 
 /// What follows this sign.
-pub(crate) fn sign_at(sign: Sign, tokens: &[Token]) -> Result<&[Token], ReadError>
+pub(crate) fn sign_at<'a>(sign: Sign, tokens: Cursor<'a>) -> Result<Cursor<'a>, ReadError>
     ensures goes { (bytes : List ℕ) (k : List Awaited) (n : ℕ) →
-        Goes result (λ r. run (lexemes bytes r.now) (at k n)) (run (lexemes bytes tokens.now) (at (this_sign sign ∷ k) n)) }
-    ensures shorter { IfOk result (λ r. length r.now < length tokens.now) }
+        Goes result (λ r. run (lexemes bytes r) (at k n)) (run (lexemes bytes tokens.entry) (at (this_sign sign ∷ k) n)) }
+    ensures shorter { IfOk result (λ r. length r < length tokens.entry) }
 {
-    match tokens {
-        [
-            Token {
-                kind: Kind::Sign(found),
-                ..
-            },
-            rest @ ..,
-        ] if number_of_sign(sign) == number_of_sign(*found) => Ok(rest),
+    let Some((first, rest)) = tokens.split_first() else {
+        return Err(ReadError::Syntax(0));
+    };
+    match first.kind {
+        Kind::Sign(found) if number_of_sign(sign) == number_of_sign(found) => Ok(rest),
         _ => Err(ReadError::Syntax(tokens.len())),
     }
 }
 
 /// What follows this word.
-pub(crate) fn word_at(word: Word, tokens: &[Token]) -> Result<&[Token], ReadError>
+pub(crate) fn word_at<'a>(word: Word, tokens: Cursor<'a>) -> Result<Cursor<'a>, ReadError>
     ensures goes { (bytes : List ℕ) (k : List Awaited) (n : ℕ) →
-        Goes result (λ r. run (lexemes bytes r.now) (at k n)) (run (lexemes bytes tokens.now) (at (this_word word ∷ k) n)) }
-    ensures shorter { IfOk result (λ r. length r.now < length tokens.now) }
+        Goes result (λ r. run (lexemes bytes r) (at k n)) (run (lexemes bytes tokens.entry) (at (this_word word ∷ k) n)) }
+    ensures shorter { IfOk result (λ r. length r < length tokens.entry) }
 {
-    match tokens {
-        [
-            Token {
-                kind: Kind::Word(found),
-                ..
-            },
-            rest @ ..,
-        ] if number_of_word(word) == number_of_word(*found) => Ok(rest),
+    let Some((first, rest)) = tokens.split_first() else {
+        return Err(ReadError::Syntax(0));
+    };
+    match first.kind {
+        Kind::Word(found) if number_of_word(word) == number_of_word(found) => Ok(rest),
         _ => Err(ReadError::Syntax(tokens.len())),
     }
 }
 
 /// What follows a name, whatever it is.
-pub(crate) fn any_name_at(tokens: &[Token]) -> Result<&[Token], ReadError>
+pub(crate) fn any_name_at<'a>(tokens: Cursor<'a>) -> Result<Cursor<'a>, ReadError>
     ensures goes { (bytes : List ℕ) (k : List Awaited) (n : ℕ) →
-        Goes result (λ r. run (lexemes bytes r.now) (at k n)) (run (lexemes bytes tokens.now) (at (any_name ∷ k) n)) }
-    ensures shorter { IfOk result (λ r. length r.now < length tokens.now) }
+        Goes result (λ r. run (lexemes bytes r) (at k n)) (run (lexemes bytes tokens.entry) (at (any_name ∷ k) n)) }
+    ensures shorter { IfOk result (λ r. length r < length tokens.entry) }
 {
-    match tokens {
-        [
-            Token {
-                kind: Kind::Name,
-                ..
-            },
-            rest @ ..,
-        ] => Ok(rest),
+    let Some((first, rest)) = tokens.split_first() else {
+        return Err(ReadError::Syntax(0));
+    };
+    match first.kind {
+        Kind::Name => Ok(rest),
         _ => Err(ReadError::Syntax(tokens.len())),
     }
 }
@@ -96,37 +87,34 @@ pub(crate) fn any_name_at(tokens: &[Token]) -> Result<&[Token], ReadError>
 pub(crate) fn name_at<'a>(
     alloc: Global,
     bytes: &[u8],
-    tokens: &'a [Token],
-) -> Result<(Name, &'a [Token]), ReadError>
+    tokens: Cursor<'a>,
+) -> Result<(Name, Cursor<'a>), ReadError>
     ensures outer { (h : Head) →
-        Goes result (λ r. run (lexemes bytes.now r.1.now) (at (this_sign signs.Comma ∷ inner_set h r.0 ∷ []) 0)) (run (lexemes bytes.now tokens.now) (at (outer_set h ∷ []) 0)) }
+        Goes result (λ r. run (lexemes bytes.now r.1) (at (this_sign signs.Comma ∷ inner_set h r.0 ∷ []) 0)) (run (lexemes bytes.now tokens.entry) (at (outer_set h ∷ []) 0)) }
     ensures inner { (h : Head) (outer : List ℕ) →
-        Goes result (λ r. run (lexemes bytes.now r.1.now) (at (this_sign signs.CloseGroup ∷ this_sign signs.Colon ∷ each_id h outer r.0 ∷ []) 0)) (run (lexemes bytes.now tokens.now) (at (inner_set h outer ∷ []) 0)) }
+        Goes result (λ r. run (lexemes bytes.now r.1) (at (this_sign signs.CloseGroup ∷ this_sign signs.Colon ∷ each_id h outer r.0 ∷ []) 0)) (run (lexemes bytes.now tokens.entry) (at (inner_set h outer ∷ []) 0)) }
     ensures id { (h : Head) (outer inner : List ℕ) →
-        Goes result (λ r. run (lexemes bytes.now r.1.now) (statement_awaited (heading_of h (Some (outer, inner)) r.0))) (run (lexemes bytes.now tokens.now) (at (each_id h outer inner ∷ []) 0)) }
-    ensures shorter { IfOk result (λ r. length r.1.now < length tokens.now) }
+        Goes result (λ r. run (lexemes bytes.now r.1) (statement_awaited (heading_of h (Some (outer, inner)) r.0))) (run (lexemes bytes.now tokens.entry) (at (each_id h outer inner ∷ []) 0)) }
+    ensures shorter { IfOk result (λ r. length r.1 < length tokens.entry) }
 {
-    match tokens {
-        [
-            Token {
-                kind: Kind::Name,
-                span,
-            },
-            rest @ ..,
-        ] => Ok((name_from(alloc, text(bytes, *span))?, rest)),
+    let Some((first, rest)) = tokens.split_first() else {
+        return Err(ReadError::Syntax(0));
+    };
+    match first.kind {
+        Kind::Name => Ok((name_from(alloc, text(bytes, first.span))?, rest)),
         _ => Err(ReadError::Syntax(tokens.len())),
     }
 }
 
 /// The bound of a limit or a term, and what follows it.
-pub(crate) fn bound_at(tokens: &[Token]) -> Result<(Bound, &[Token]), ReadError>
+pub(crate) fn bound_at<'a>(tokens: Cursor<'a>) -> Result<(Bound, Cursor<'a>), ReadError>
     ensures limit { (bytes : List ℕ) (o : Opened) →
-        Goes result (λ r. run (lexemes bytes r.1.now) (at (this_sign signs.OpenGroup ∷ limit_rate o r.0 ∷ []) 0)) (run (lexemes bytes tokens.now) (at (limit o ∷ []) 0)) }
+        Goes result (λ r. run (lexemes bytes r.1) (at (this_sign signs.OpenGroup ∷ limit_rate o r.0 ∷ []) 0)) (run (lexemes bytes tokens.entry) (at (limit o ∷ []) 0)) }
     ensures term { (bytes : List ℕ) (w : WrittenPolicy) →
-        Goes result (λ r. run (lexemes bytes r.1.now) (at (this_sign signs.OpenGroup ∷ leading w r.0 [] ∷ []) 0)) (run (lexemes bytes tokens.now) (at (term w ∷ []) 0)) }
-    ensures shorter { IfOk result (λ r. length r.1.now < length tokens.now) }
+        Goes result (λ r. run (lexemes bytes r.1) (at (this_sign signs.OpenGroup ∷ leading w r.0 [] ∷ []) 0)) (run (lexemes bytes tokens.entry) (at (term w ∷ []) 0)) }
+    ensures shorter { IfOk result (λ r. length r.1 < length tokens.entry) }
 {
-    let [first, rest @ ..] = tokens else {
+    let Some((first, rest)) = tokens.split_first() else {
         return Err(ReadError::Syntax(0));
     };
     match first.kind {
@@ -137,21 +125,18 @@ pub(crate) fn bound_at(tokens: &[Token]) -> Result<(Bound, &[Token]), ReadError>
 }
 
 /// The rate of a limit or a term, and what follows it.
-pub(crate) fn rate_at(tokens: &[Token]) -> Result<(u64, &[Token]), ReadError>
+pub(crate) fn rate_at<'a>(tokens: Cursor<'a>) -> Result<(u64, Cursor<'a>), ReadError>
     ensures limit { (bytes : List ℕ) (o : Opened) (b : Bound) →
-        Goes result (λ r. run (lexemes bytes r.1.now) (at (this_sign signs.CloseGroup ∷ limit_rest (with_limit o b r.0) ∷ []) 0)) (run (lexemes bytes tokens.now) (at (limit_rate o b ∷ []) 0)) }
+        Goes result (λ r. run (lexemes bytes r.1) (at (this_sign signs.CloseGroup ∷ limit_rest (with_limit o b r.0) ∷ []) 0)) (run (lexemes bytes tokens.entry) (at (limit_rate o b ∷ []) 0)) }
     ensures term { (bytes : List ℕ) (w : WrittenPolicy) (b : Bound) (parts : List Part) →
-        Goes result (λ r. run (lexemes bytes r.1.now) (at (this_sign signs.CloseGroup ∷ terms_rest (with_term w b parts r.0) ∷ []) 0)) (run (lexemes bytes tokens.now) (at (term_rate w b parts ∷ []) 0)) }
-    ensures shorter { IfOk result (λ r. length r.1.now < length tokens.now) }
+        Goes result (λ r. run (lexemes bytes r.1) (at (this_sign signs.CloseGroup ∷ terms_rest (with_term w b parts r.0) ∷ []) 0)) (run (lexemes bytes tokens.entry) (at (term_rate w b parts ∷ []) 0)) }
+    ensures shorter { IfOk result (λ r. length r.1 < length tokens.entry) }
 {
-    match tokens {
-        [
-            Token {
-                kind: Kind::Rate(rate),
-                ..
-            },
-            rest @ ..,
-        ] => Ok((*rate, rest)),
+    let Some((first, rest)) = tokens.split_first() else {
+        return Err(ReadError::Syntax(0));
+    };
+    match first.kind {
+        Kind::Rate(rate) => Ok((rate, rest)),
         _ => Err(ReadError::Syntax(tokens.len())),
     }
 }

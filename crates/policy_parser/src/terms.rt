@@ -1,6 +1,6 @@
 //! Terms of the bandwidth formula.
 
-ghost use Rattle.std.specs.Prelude.{◌≡◌, ◌<◌, ◌≤◌, ℕ, List, [], ◌∷◌, ◌++◌, IfOk, Option, Result, Ok, length};
+ghost use Rattle.std.specs.Prelude.{◌≡◌, ◌<◌, ◌≤◌, ℕ, List, [], ◌∷◌, ◌++◌, IfOk, IfSome, Option, Result, Ok, length};
 ghost use Rattle.merlin_model.specs.declared.policy.Bound.{Bound};
 ghost use Rattle.merlin_model.specs.declared.policy.Part.{Part};
 ghost use Rattle.merlin_model.specs.declared.policy.Term.{Term};
@@ -10,13 +10,13 @@ ghost use Rattle.policy_grammar.specs.declared.written.WrittenPolicy.{WrittenPol
 ghost use Rattle.policy_grammar.specs.declared.written.WrittenSet.{WrittenSet};
 ghost use Rattle.policy_grammar.specs.Lexemes.{lexemes};
 ghost use Rattle.policy_grammar.specs.Machine.{formula, terms_rest, term as term_awaited, leading, sum_rest, summand, term_rate, with_term, run, at};
-ghost use Rattle.policy_parser.specs.Goes.{Goes, policy_of};
+ghost use Rattle.policy_parser.specs.Goes.{Goes, policy_of, more_terms};
 
 use crate::fault::ReadError;
 use crate::signs::{bound_at, rate_at, sign_at, text};
 use merlin_model::name::name_from;
 use merlin_model::policy::{Part, Term};
-use merlin_text::{Kind, Sign, Token, Word};
+use merlin_text::{Cursor, Kind, Sign, Word};
 use sqlite_items::Items;
 use std::alloc::Global;
 
@@ -24,16 +24,16 @@ use std::alloc::Global;
 fn leading_part<'a>(
     alloc: Global,
     bytes: &[u8],
-    tokens: &'a [Token],
-) -> Result<(Items<Part>, &'a [Token]), ReadError>
+    tokens: Cursor<'a>,
+) -> Result<(Items<Part>, Cursor<'a>), ReadError>
     ensures goes { (w : WrittenPolicy) (b : Bound) →
-        Goes result (λ r. run (lexemes bytes.now r.1.now) (at (sum_rest w b r.0 ∷ []) 0)) (run (lexemes bytes.now tokens.now) (at (leading w b [] ∷ []) 0)) }
-    ensures shorter { IfOk result (λ r. length r.1.now < length tokens.now) }
+        Goes result (λ r. run (lexemes bytes.now r.1) (at (sum_rest w b r.0 ∷ []) 0)) (run (lexemes bytes.now tokens.entry) (at (leading w b [] ∷ []) 0)) }
+    ensures shorter { IfOk result (λ r. length r.1 < length tokens.entry) }
 {
     let mut parts = Items::new(alloc);
     let mut rest = tokens;
     'rates: loop {
-        let [first, others @ ..] = rest else {
+        let Some((first, others)) = rest.split_first() else {
             return Err(ReadError::Syntax(0));
         };
         match first.kind {
@@ -54,13 +54,13 @@ fn leading_part<'a>(
 fn summand_at<'a>(
     alloc: Global,
     bytes: &[u8],
-    tokens: &'a [Token],
-) -> Result<(Part, &'a [Token]), ReadError>
+    tokens: Cursor<'a>,
+) -> Result<(Part, Cursor<'a>), ReadError>
     ensures goes { (w : WrittenPolicy) (b : Bound) (parts : List Part) →
-        Goes result (λ r. run (lexemes bytes.now r.1.now) (at (sum_rest w b (parts ++ r.0 ∷ []) ∷ []) 0)) (run (lexemes bytes.now tokens.now) (at (summand w b parts ∷ []) 0)) }
-    ensures shorter { IfOk result (λ r. length r.1.now < length tokens.now) }
+        Goes result (λ r. run (lexemes bytes.now r.1) (at (sum_rest w b (parts ++ r.0 ∷ []) ∷ []) 0)) (run (lexemes bytes.now tokens.entry) (at (summand w b parts ∷ []) 0)) }
+    ensures shorter { IfOk result (λ r. length r.1 < length tokens.entry) }
 {
-    let [first, rest @ ..] = tokens else {
+    let Some((first, rest)) = tokens.split_first() else {
         return Err(ReadError::Syntax(0));
     };
     match first.kind {
@@ -74,15 +74,15 @@ fn summand_at<'a>(
 fn sum<'a>(
     alloc: Global,
     bytes: &[u8],
-    tokens: &'a [Token],
-) -> Result<(Items<Part>, &'a [Token]), ReadError>
+    tokens: Cursor<'a>,
+) -> Result<(Items<Part>, Cursor<'a>), ReadError>
     ensures goes { (w : WrittenPolicy) (b : Bound) →
-        Goes result (λ r. run (lexemes bytes.now r.1.now) (at (term_rate w b r.0 ∷ []) 0)) (run (lexemes bytes.now tokens.now) (at (leading w b [] ∷ []) 0)) }
-    ensures shorter { IfOk result (λ r. length r.1.now < length tokens.now) }
+        Goes result (λ r. run (lexemes bytes.now r.1) (at (term_rate w b r.0 ∷ []) 0)) (run (lexemes bytes.now tokens.entry) (at (leading w b [] ∷ []) 0)) }
+    ensures shorter { IfOk result (λ r. length r.1 < length tokens.entry) }
 {
     let (mut parts, mut rest) = leading_part(alloc, bytes, tokens)?;
     'summands: loop {
-        let [first, others @ ..] = rest else {
+        let Some((first, others)) = rest.split_first() else {
             return Err(ReadError::Syntax(0));
         };
         match first.kind {
@@ -101,11 +101,11 @@ fn sum<'a>(
 fn term<'a>(
     alloc: Global,
     bytes: &[u8],
-    tokens: &'a [Token],
-) -> Result<(Term, &'a [Token]), ReadError>
+    tokens: Cursor<'a>,
+) -> Result<(Term, Cursor<'a>), ReadError>
     ensures goes { (w : WrittenPolicy) →
-        Goes result (λ r. run (lexemes bytes.now r.1.now) (at (terms_rest (with_term w r.0.bound r.0.parts r.0.rate) ∷ []) 0)) (run (lexemes bytes.now tokens.now) (at (term_awaited w ∷ []) 0)) }
-    ensures shorter { IfOk result (λ r. length r.1.now < length tokens.now) }
+        Goes result (λ r. run (lexemes bytes.now r.1) (at (terms_rest (with_term w r.0.bound r.0.parts r.0.rate) ∷ []) 0)) (run (lexemes bytes.now tokens.entry) (at (term_awaited w ∷ []) 0)) }
+    ensures shorter { IfOk result (λ r. length r.1 < length tokens.entry) }
 {
     let (bound, rest) = bound_at(tokens)?;
     let rest = sign_at(Sign::OpenGroup, rest)?;
@@ -115,48 +115,51 @@ fn term<'a>(
     Ok((Term { bound, parts, rate }, rest))
 }
 
+/// What follows `and`, if another term stands after this one. None at the end of the text.
+fn next_term<'a>(tokens: Cursor<'a>) -> Result<Option<Cursor<'a>>, ReadError>
+    ensures goes { (bytes : List ℕ) (w : WrittenPolicy) →
+        Goes result (more_terms bytes w) (run (lexemes bytes tokens.entry) (at (terms_rest w ∷ []) 0)) }
+    ensures shorter { IfOk result (λ r. IfSome r (λ rest. length rest < length tokens.entry)) }
+{
+    let Some((first, rest)) = tokens.split_first() else {
+        return Ok(None);
+    };
+    match first.kind {
+        Kind::Word(Word::And) => Ok(Some(rest)),
+        _ => Err(ReadError::Syntax(tokens.len())),
+    }
+}
+
 /// The terms up to the end of the text.
-fn terms_after(alloc: Global, bytes: &[u8], tokens: &[Token]) -> Result<Items<Term>, ReadError>
+fn terms_after<'a>(alloc: Global, bytes: &[u8], tokens: Cursor<'a>) -> Result<Items<Term>, ReadError>
     ensures { (sets : List WrittenSet) (items : List Item) (default : Option RawPath) →
-        Goes result (λ terms. (let r : Result WrittenPolicy ℕ = Ok (policy_of sets items default terms) in r)) (run (lexemes bytes.now tokens.now) (at (term_awaited (policy_of sets items default []) ∷ []) 0)) }
+        Goes result (λ terms. (let r : Result WrittenPolicy ℕ = Ok (policy_of sets items default terms) in r)) (run (lexemes bytes.now tokens.entry) (at (term_awaited (policy_of sets items default []) ∷ []) 0)) }
 {
     let mut terms = Items::new(alloc);
     let mut rest = tokens;
     'terms: loop {
         let (term, others) = term(alloc, bytes, rest)?;
         terms.push(term)?;
-        match others {
-            [
-                Token {
-                    kind: Kind::Word(Word::And),
-                    ..
-                },
-                others @ ..,
-            ] => rest = others,
-            [] => return Ok(terms),
-            [_other, _others @ ..] => return Err(ReadError::Syntax(others.len())),
+        match next_term(others)? {
+            Some(after) => rest = after,
+            None => return Ok(terms),
         }
     }
 }
 
 /// What follows the list: nothing, or a comma and terms.
-pub(crate) fn formula_of(
+pub(crate) fn formula_of<'a>(
     alloc: Global,
     bytes: &[u8],
-    tokens: &[Token],
-) -> Result<Items<Term>, ReadError>
+    tokens: Cursor<'a>) -> Result<Items<Term>, ReadError>
     ensures { (sets : List WrittenSet) (items : List Item) (default : Option RawPath) →
-        Goes result (λ terms. (let r : Result WrittenPolicy ℕ = Ok (policy_of sets items default terms) in r)) (run (lexemes bytes.now tokens.now) (at (formula (policy_of sets items default []) ∷ []) 0)) }
+        Goes result (λ terms. (let r : Result WrittenPolicy ℕ = Ok (policy_of sets items default terms) in r)) (run (lexemes bytes.now tokens.entry) (at (formula (policy_of sets items default []) ∷ []) 0)) }
 {
-    match tokens {
-        [
-            Token {
-                kind: Kind::Sign(Sign::Comma),
-                ..
-            },
-            rest @ ..,
-        ] => terms_after(alloc, bytes, rest),
-        [] => Ok(Items::new(alloc)),
-        [_first, _rest @ ..] => Err(ReadError::Syntax(tokens.len())),
+    let Some((first, rest)) = tokens.split_first() else {
+        return Ok(Items::new(alloc));
+    };
+    match first.kind {
+        Kind::Sign(Sign::Comma) => terms_after(alloc, bytes, rest),
+        _ => Err(ReadError::Syntax(tokens.len())),
     }
 }

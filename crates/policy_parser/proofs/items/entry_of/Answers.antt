@@ -1,4 +1,4 @@
-use Rattle.std.proofs.Common.{rules, ◌≡◌, ◌-◌, [], ◌∷◌, length, take, drop, sym, subst}
+use Rattle.std.proofs.Common.{rules, ◌≡◌, [], ◌∷◌, sym, subst}
 use Rattle.policy_grammar.specs.Lexemes.{lexemes}
 use Rattle.policy_grammar.specs.Machine.{item, run, at}
 use Rattle.policy_parser.specs.Goes.{Goes, after_entry}
@@ -7,5 +7,5 @@ use Rattle.policy_parser.proofs.items.entry_of.Goals as goal
 
 pub returns-in-Word-Foreach-clause-goes : goal.returns-in-Word-Foreach-clause-goes
 returns-in-Word-Foreach-clause-goes c = λ h.
-    let e : run (lexemes c.args.bytes.now c.args.tokens.now) (at (item h ∷ []) 0) ≡ run (lexemes c.args.bytes.now (take (length c.args.tokens.now - 1) (drop 1 c.args.tokens.now))) (each_awaited h) = search (rules, each_fed) in
-    subst (λ r. Goes c.for_each.result (λ r. run (lexemes c.args.bytes.now r.1.now) (after_entry r.0 h)) r) (sym e) (c.for_each.ensures.goes h)
+    let e : run (lexemes c.args.bytes.now c.args.tokens) (at (item h ∷ []) 0) ≡ run (lexemes c.args.bytes.now c.in-Some.rest) (each_awaited h) = search (rules, each_fed) in
+    subst (λ r. Goes c.for_each.result (λ r. run (lexemes c.args.bytes.now r.1) (after_entry r.0 h)) r) (sym e) (c.for_each.ensures.goes h)

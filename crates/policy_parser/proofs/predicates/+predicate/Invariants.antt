@@ -14,20 +14,20 @@ decreases-conjunction l = 3 * l.room + 1
 abbrev pub decreases-predicate : goal.decreases-predicate
 decreases-predicate l = 3 * l.room + 2
 
-abbrev pub invariant-conjunction-loop-rest : goal.invariant-conjunction-loop-rest
-invariant-conjunction-loop-rest l = record {
+abbrev pub invariant-conjunction-literals : goal.invariant-conjunction-literals
+invariant-conjunction-literals l = record {
   goes : (k : List Awaited) (ps : List Pred) → opens k + l.room ≡ 128 → run (lexemes l.bytes l.fn.tokens) (at (literal ∷ lits [] ∷ conjs ps ∷ k) l.fn.left) ≡ run (lexemes l.bytes l.rest) (at (lits l.parts ∷ conjs ps ∷ k) l.spare);
   shorter : length l.rest < length l.fn.tokens;
 }
 
-abbrev pub decreases-conjunction-loop-rest : goal.decreases-conjunction-loop-rest
-decreases-conjunction-loop-rest l = length l.rest
+abbrev pub decreases-conjunction-literals : goal.decreases-conjunction-literals
+decreases-conjunction-literals l = length l.rest
 
-abbrev pub invariant-predicate-loop-rest : goal.invariant-predicate-loop-rest
-invariant-predicate-loop-rest l = record {
+abbrev pub invariant-predicate-conjunctions : goal.invariant-predicate-conjunctions
+invariant-predicate-conjunctions l = record {
   goes : (k : List Awaited) → opens k + l.room ≡ 128 → run (lexemes l.bytes l.fn.tokens) (at (literal ∷ lits [] ∷ conjs [] ∷ k) l.fn.left) ≡ run (lexemes l.bytes l.rest) (at (conjs l.parts ∷ k) l.spare);
   shorter : length l.rest < length l.fn.tokens;
 }
 
-abbrev pub decreases-predicate-loop-rest : goal.decreases-predicate-loop-rest
-decreases-predicate-loop-rest l = length l.rest
+abbrev pub decreases-predicate-conjunctions : goal.decreases-predicate-conjunctions
+decreases-predicate-conjunctions l = length l.rest

@@ -5,7 +5,7 @@ use Rattle.merlin_text.specs.declared.token.TokenFault.{TokenFault}
 use Rattle.merlin_text.specs.declared.token.TokenFault.TheVariants as faults
 use Rattle.merlin_text.specs.Tokens.{AreTokens, AreSlices}
 use Rattle.merlin_text.proofs.Cuts.{slices, tokens_once, tokens_or_fault, one_fault}
-use Rattle.merlin_text.proofs.scan.tokens.Goals as goal
+use Rattle.merlin_text.proofs.whole.tokens.Goals as goal
 
 kept_slices : (text : List ℕ) (ts : List Token) (r : Result (Vec Token Global) TokenFault) → AreTokens text ts → IfOk r (λ kept. kept.items ≡ ts) → IfOk r (λ kept. AreSlices text 0 kept.items)
 kept_slices text ts (Ok kept) are ok = subst (AreSlices text 0) (sym ok) (slices text _ ts are)

@@ -64,7 +64,10 @@ fn limit_at<'a>(tokens: Cursor<'a>) -> Result<(Limit, Cursor<'a>), ReadError>
 }
 
 /// The limits after `at`, up to the sign that ends the statement.
-fn limits<'a>(alloc: Global, tokens: Cursor<'a>) -> Result<(Items<Limit>, End, Cursor<'a>), ReadError>
+fn limits<'a>(
+    alloc: Global,
+    tokens: Cursor<'a>,
+) -> Result<(Items<Limit>, End, Cursor<'a>), ReadError>
     ensures goes { (bytes : List ℕ) (h : Heading) (pred : Pred) (path : RawPath) →
         Goes result (λ r. run (lexemes bytes r.2) (ended r.1 (closed (opened h pred path r.0)))) (run (lexemes bytes tokens.entry) (at (limit_awaited (opened h pred path []) ∷ []) 0)) }
     ensures shorter { IfOk result (λ r. length r.2 < length tokens.entry) }
@@ -89,7 +92,8 @@ fn limits<'a>(alloc: Global, tokens: Cursor<'a>) -> Result<(Items<Limit>, End, C
 /// What follows a statement's path: its limits, and the sign that ends it.
 fn statement_end<'a>(
     alloc: Global,
-    tokens: Cursor<'a>) -> Result<(Items<Limit>, End, Cursor<'a>), ReadError>
+    tokens: Cursor<'a>,
+) -> Result<(Items<Limit>, End, Cursor<'a>), ReadError>
     ensures goes { (bytes : List ℕ) (h : Heading) (pred : Pred) (path : RawPath) (n : ℕ) →
         Goes result (λ r. run (lexemes bytes r.2) (ended r.1 (closed (opened h pred path r.0)))) (run (lexemes bytes tokens.entry) (at (whole_path path ∷ statement_path h pred ∷ []) n)) }
     ensures shorter { IfOk result (λ r. length r.2 < length tokens.entry) }

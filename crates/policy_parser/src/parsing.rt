@@ -43,11 +43,7 @@ fn written(alloc: Global, bytes: &[u8]) -> Result<WrittenPolicy, PolicyFault>
 }
 
 // The policy of these tokens as it is written.
-fn read(
-    alloc: Global,
-    bytes: &[u8],
-    tokens: Cursor<'_>,
-) -> Result<WrittenPolicy, PolicyFault>
+fn read(alloc: Global, bytes: &[u8], tokens: Cursor<'_>) -> Result<WrittenPolicy, PolicyFault>
     ensures { IsRead bytes.now tokens.entry result }
 {
     let count = tokens.len();

@@ -24,13 +24,15 @@ fn stars<'a>(tokens: Cursor<'a>) -> (bool, Cursor<'a>)
 {
     let mut found = false;
     let mut rest = tokens;
-    'stars: while let Some((
-        Token {
-            kind: Kind::Sign(Sign::Star),
-            ..
-        },
-        others,
-    )) = rest.split_first()
+    'stars: while let Some(
+        (
+            Token {
+                kind: Kind::Sign(Sign::Star),
+                ..
+            },
+            others,
+        ),
+    ) = rest.split_first()
     {
         found = true;
         rest = others;
@@ -42,7 +44,8 @@ fn stars<'a>(tokens: Cursor<'a>) -> (bool, Cursor<'a>)
 fn with_stars<'a>(
     alloc: Global,
     path: RawPath,
-    tokens: Cursor<'a>) -> Result<(RawPath, Cursor<'a>), ReadError>
+    tokens: Cursor<'a>,
+) -> Result<(RawPath, Cursor<'a>), ReadError>
     ensures goes { (bytes : List ℕ) (k : List Awaited) (n : ℕ) → IsInSequence k →
         Goes result (λ r. run (lexemes bytes r.1) (at (put_path r.0 k) n)) (run (lexemes bytes tokens.entry) (at (prim path false ∷ k) n)) }
     ensures shorter { IfOk result (λ r. length r.1 ≤ length tokens.entry) }

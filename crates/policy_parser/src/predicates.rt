@@ -242,13 +242,15 @@ fn conjunction<'a>(
     let mut parts = Items::new(alloc);
     let (pred, mut rest, mut spare) = literal(alloc, bytes, tokens, room, left)?;
     parts.push(pred)?;
-    'literals: while let Some((
-        Token {
-            kind: Kind::Word(Word::And),
-            ..
-        },
-        others,
-    )) = rest.split_first()
+    'literals: while let Some(
+        (
+            Token {
+                kind: Kind::Word(Word::And),
+                ..
+            },
+            others,
+        ),
+    ) = rest.split_first()
     {
         let (pred, others, fewer) = literal(alloc, bytes, others, room, spare)?;
         parts.push(pred)?;
@@ -274,13 +276,15 @@ pub(crate) fn predicate<'a>(
     let mut parts = Items::new(alloc);
     let (pred, mut rest, mut spare) = conjunction(alloc, bytes, tokens, room, left)?;
     parts.push(pred)?;
-    'conjunctions: while let Some((
-        Token {
-            kind: Kind::Word(Word::Or),
-            ..
-        },
-        others,
-    )) = rest.split_first()
+    'conjunctions: while let Some(
+        (
+            Token {
+                kind: Kind::Word(Word::Or),
+                ..
+            },
+            others,
+        ),
+    ) = rest.split_first()
     {
         let (pred, others, fewer) = conjunction(alloc, bytes, others, room, spare)?;
         parts.push(pred)?;

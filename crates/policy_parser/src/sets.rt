@@ -33,19 +33,24 @@ fn literal_at<'a>(tokens: Cursor<'a>) -> Result<(Literal, Cursor<'a>), ReadError
 }
 
 /// The addresses up to the end of a set.
-fn literals<'a>(alloc: Global, tokens: Cursor<'a>) -> Result<(Items<Literal>, Cursor<'a>), ReadError>
+fn literals<'a>(
+    alloc: Global,
+    tokens: Cursor<'a>,
+) -> Result<(Items<Literal>, Cursor<'a>), ReadError>
     ensures goes { (bytes : List ℕ) (ss : List WrittenSet) (name : List ℕ) →
         Goes result (λ r. run (lexemes bytes r.1) (at (sets_awaited (with_set ss name r.0) ∷ []) 0)) (run (lexemes bytes tokens.entry) (at (set_start ss name ∷ []) 0)) }
     ensures shorter { IfOk result (λ r. length r.1 < length tokens.entry) }
 {
     let mut literals = Items::new(alloc);
-    if let Some((
-        Token {
-            kind: Kind::Sign(Sign::CloseSet),
-            ..
-        },
-        rest,
-    )) = tokens.split_first()
+    if let Some(
+        (
+            Token {
+                kind: Kind::Sign(Sign::CloseSet),
+                ..
+            },
+            rest,
+        ),
+    ) = tokens.split_first()
     {
         return Ok((literals, rest));
     }
@@ -65,7 +70,10 @@ fn literals<'a>(alloc: Global, tokens: Cursor<'a>) -> Result<(Items<Literal>, Cu
 }
 
 /// A set whose name is read.
-fn set_after<'a>(alloc: Global, tokens: Cursor<'a>) -> Result<(Items<Literal>, Cursor<'a>), ReadError>
+fn set_after<'a>(
+    alloc: Global,
+    tokens: Cursor<'a>,
+) -> Result<(Items<Literal>, Cursor<'a>), ReadError>
     ensures goes { (bytes : List ℕ) (ss : List WrittenSet) (name : List ℕ) →
         Goes result (λ r. run (lexemes bytes r.1) (at (sets_awaited (with_set ss name r.0) ∷ []) 0)) (run (lexemes bytes tokens.entry) (at (this_sign signs.Becomes ∷ this_sign signs.OpenSet ∷ set_start ss name ∷ []) 0)) }
     ensures shorter { IfOk result (λ r. length r.1 < length tokens.entry) }

@@ -131,7 +131,11 @@ fn next_term<'a>(tokens: Cursor<'a>) -> Result<Option<Cursor<'a>>, ReadError>
 }
 
 /// The terms up to the end of the text.
-fn terms_after<'a>(alloc: Global, bytes: &[u8], tokens: Cursor<'a>) -> Result<Items<Term>, ReadError>
+fn terms_after<'a>(
+    alloc: Global,
+    bytes: &[u8],
+    tokens: Cursor<'a>,
+) -> Result<Items<Term>, ReadError>
     ensures { (sets : List WrittenSet) (items : List Item) (default : Option RawPath) →
         Goes result (λ terms. (let r : Result WrittenPolicy ℕ = Ok (policy_of sets items default terms) in r)) (run (lexemes bytes.now tokens.entry) (at (term_awaited (policy_of sets items default []) ∷ []) 0)) }
 {
@@ -151,7 +155,8 @@ fn terms_after<'a>(alloc: Global, bytes: &[u8], tokens: Cursor<'a>) -> Result<It
 pub(crate) fn formula_of<'a>(
     alloc: Global,
     bytes: &[u8],
-    tokens: Cursor<'a>) -> Result<Items<Term>, ReadError>
+    tokens: Cursor<'a>,
+) -> Result<Items<Term>, ReadError>
     ensures { (sets : List WrittenSet) (items : List Item) (default : Option RawPath) →
         Goes result (λ terms. (let r : Result WrittenPolicy ℕ = Ok (policy_of sets items default terms) in r)) (run (lexemes bytes.now tokens.entry) (at (formula (policy_of sets items default []) ∷ []) 0)) }
 {

@@ -7,3 +7,4 @@ pub mod Ordered
 pub mod PairPackets
 pub mod Differing
 pub mod Forming
+pub mod Consuming

@@ -5,12 +5,11 @@ use Rattle.std.specs.List.{enumerate_from}
 use Rattle.std.proofs.lemmas.List.{take_more, length-take-le, length-map, map-append}
 use Rattle.std.proofs.lemmas.List.FromFn.{length-enumerate_from}
 use Rattle.std.proofs.lemmas.List.Concat.{flat_map-append}
-use Rattle.merlin_model.specs.declared.policy.Pred.{Pred}
 use Rattle.policy_grammar.specs.declared.written.Literal.{Literal}
 use Rattle.policy_grammar.specs.declared.written.WrittenStatement.{WrittenStatement}
 use Rattle.policy_grammar.specs.declared.written.Item.{Item}
 use Rattle.policy_grammar.specs.declared.written.Item.TheVariants.{ForEach}
-use Rattle.policy_expansion.specs.WrittenOut.{pairs, between, numbered, for_pair, written_out}
+use Rattle.policy_expansion.specs.WrittenOut.{pairs, for_pair, written_out}
 use Rattle.policy_expansion.specs.declared.writing.Written.{Written}
 use Rattle.policy_expansion.specs.Expansion.{plain, terms_of}
 use Rattle.policy_expansion.specs.Adding.{Adds}
@@ -52,6 +51,9 @@ module _ (known : List ℕ → Option (List Literal)) (item : Item) (outer inner
   pub length_of_each : length (pairs a b) ≡ length (written_out known item)
   length_of_each = sym (length-map (enumerate_from 1 (pairs a b)) (for_pair s) ∙ length-enumerate_from 1 (pairs a b)) ∙ ap length (each_written (pairs a b) refl)
 
--- the statement of a pair, under its own id and predicate
-pub own_statement : (s : WrittenStatement) (number : ℕ) (pair : Literal × Literal) (id : List ℕ) (pred : Pred) → id ≡ numbered s.id number → pred ≡ between pair s.pred → record s { id = id; pred = pred } ≡ for_pair s (number, pair)
-own_statement s number pair id pred named holds = λ k. record s { id = named k; pred = holds k }
+-- one more pair at the end has the statement with the next number
+pub one_more_pair : (s : WrittenStatement) (pairs : List (Literal × Literal)) (i : ℕ) (d : Literal × Literal) (own : WrittenStatement) → own ≡ for_pair s (i + 1, get_or pairs i d) → i < length pairs
+    → map (for_pair s) (enumerate_from 1 (take i pairs)) ++ own ∷ [] ≡ map (for_pair s) (enumerate_from 1 (take (i + 1) pairs))
+one_more_pair s pairs i d own e within =
+    ap (λ last. map (for_pair s) (enumerate_from 1 (take i pairs)) ++ last ∷ []) e
+    ∙ (sym (map-append (for_pair s) (enumerate_from 1 (take i pairs)) ((i + 1, get_or pairs i d) ∷ [])) ∙ ap (map (for_pair s)) (sym (enumerate_more pairs i d within)))

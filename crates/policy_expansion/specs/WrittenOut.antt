@@ -9,6 +9,7 @@ use Rattle.policy_grammar.specs.declared.written.Literal.TheVariants.{Mac, Ip}
 use Rattle.policy_grammar.specs.declared.written.WrittenSet.{WrittenSet}
 use Rattle.policy_grammar.specs.declared.written.WrittenStatement.{WrittenStatement}
 use Rattle.policy_grammar.specs.declared.written.Item.{Item}
+use Rattle.policy_grammar.specs.declared.written.RawPath.{RawPath}
 use Rattle.policy_grammar.specs.declared.written.Item.TheVariants.{One, ForEach}
 use Rattle.policy_grammar.specs.declared.written.WrittenPolicy.{WrittenPolicy}
 
@@ -70,3 +71,7 @@ written_out known (ForEach outer inner s) = map (for_pair s) (enumerate_from 1 (
 -- all statements of a policy, each with its limits
 abbrev pub statements_of : WrittenPolicy → List WrittenStatement
 statements_of w = flat_map (written_out (known_literals w.sets)) w.items
+
+-- a policy of these sets, items and default, without a formula
+abbrev pub listed : List WrittenSet → List Item → Option RawPath → WrittenPolicy
+listed sets items default = record { sets = sets; items = items; default_path = default; terms = [] }

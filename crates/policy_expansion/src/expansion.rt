@@ -1,6 +1,6 @@
 //! The policy that a policy as it is written stands for.
 ghost use Rattle.std.specs.Prelude.{◌≡◌, [], None, IfOk, IfErr};
-ghost use Rattle.policy_expansion.specs.WrittenOut.{statements_of};
+ghost use Rattle.policy_expansion.specs.WrittenOut.{listed, statements_of};
 ghost use Rattle.policy_expansion.specs.Faults.{fault_of, IsFault};
 ghost use Rattle.policy_expansion.specs.Expansion.{IsExpansion};
 ghost use Rattle.policy_expansion.specs.Adding.{Adds};
@@ -9,8 +9,9 @@ use crate::faults::{ask_count, ask_ids, ask_kinds, ask_names};
 use crate::policy::{ExpansionFault, Policy};
 use crate::sets::sets_of;
 use crate::writing::{Written, write_out};
-use policy_grammar::written::WrittenPolicy;
+use policy_grammar::written::{Item, RawPath, WrittenPolicy, WrittenSet};
 use rate_formula::Formula;
+use sqlite_items::Items;
 use std::alloc::Global;
 
 /// The policy that this one stands for: its sets and each `foreach` are written out, and limits of statements are terms.
@@ -19,27 +20,37 @@ use std::alloc::Global;
 pub fn expand(alloc: Global, written: WrittenPolicy) -> Result<Policy, ExpansionFault>
     ensures { IsExpansion written result }
 {
-    let whole = lawful_statements(alloc, &written)?;
-    let mut terms = whole.terms;
-    terms.append(written.terms)?;
+    let WrittenPolicy {
+        sets,
+        items,
+        default_path,
+        terms,
+    } = written;
+    let whole = lawful_statements(alloc, sets.as_slice(), items, &default_path)?;
+    let mut all_terms = whole.terms;
+    all_terms.append(terms)?;
     Ok(Policy {
         statements: whole.statements,
-        default_path: written.default_path,
-        formula: Formula { terms },
+        default_path,
+        formula: Formula { terms: all_terms },
     })
 }
 
 // The statements with the terms of their limits, if there is no fault.
-fn lawful_statements(alloc: Global, written: &WrittenPolicy) -> Result<Written, ExpansionFault>
-    ensures ok { IfOk result (λ whole. (fault_of written.now ≡ None) × Adds (record { statements = []; terms = [] }) whole (statements_of written.now)) }
-    ensures err { IfErr result (IsFault (fault_of written.now)) }
+fn lawful_statements(
+    alloc: Global,
+    sets: &[WrittenSet],
+    items: Items<Item>,
+    default_path: &Option<RawPath>,
+) -> Result<Written, ExpansionFault>
+    ensures ok { IfOk result (λ whole. (fault_of (listed sets.now items default_path.now) ≡ None) × Adds (record { statements = []; terms = [] }) whole (statements_of (listed sets.now items default_path.now))) }
+    ensures err { IfErr result (IsFault (fault_of (listed sets.now items default_path.now))) }
 {
-    let sets = written.sets.as_slice();
-    let items = written.items.as_slice();
     let known = sets_of(alloc, sets)?;
     ask_kinds(alloc, sets)?;
-    ask_names(alloc, &known, items)?;
-    ask_count(&known, items, &written.default_path)?;
+    let list = items.as_slice();
+    ask_names(alloc, &known, list)?;
+    ask_count(&known, list, default_path)?;
     let whole = write_out(alloc, &known, items)?;
     ask_ids(alloc, whole.statements.as_slice())?;
     Ok(whole)

@@ -1,5 +1,5 @@
 //! Statements written out, with the terms of their limits.
-ghost use Rattle.std.specs.Prelude.{◌≡◌, [], ◌∷◌, ◌++◌, codes, decimal, map, flat_map, IfOk, OnOk};
+ghost use Rattle.std.specs.Prelude.{◌≡◌, [], ◌∷◌, ◌++◌, codes, decimal, map, flat_map, reverse, IfOk, OnOk};
 ghost use Rattle.std.specs.List.{enumerate_from};
 ghost use Rattle.policy_expansion.specs.WrittenOut.{from_source, to_destination, between, numbered as numbered_text, for_pair, written_out};
 ghost use Rattle.policy_expansion.specs.Expansion.{term_of as limit_term};
@@ -77,15 +77,32 @@ fn numbered(alloc: Global, id: &Name, number: usize) -> Result<Name, OutOfMemory
     name_from(alloc, &text)
 }
 
+// The statement of a pair, by its number.
+fn statement_of(
+    alloc: Global,
+    statement: &WrittenStatement,
+    number: usize,
+    pair: (Literal, Literal),
+) -> Result<WrittenStatement, OutOfMemory>
+    ensures { IfOk result (λ own. own ≡ for_pair statement.now (number, pair)) }
+{
+    Ok(WrittenStatement {
+        id: numbered(alloc, &statement.id, number)?,
+        pred: pred_between(alloc, pair, &statement.pred)?,
+        path: copy_of_path(alloc, &statement.path)?,
+        limits: Items::from_slice(alloc, statement.limits.as_slice())?,
+    })
+}
+
 // The term that a limit of a statement stands for.
 fn term_of(alloc: Global, id: &Name, limit: Limit) -> Result<Term, OutOfMemory>
     ensures { IfOk result (λ term. term ≡ limit_term id.now limit) }
 {
-    let mut parts = Items::new(alloc);
+    let mut parts = Vec::with_capacity(alloc, 1)?;
     parts.push(Part::Id(id.copy(alloc)?))?;
     Ok(Term {
         bound: limit.bound,
-        parts,
+        parts: Items::from_vec(parts),
         rate: limit.rate,
     })
 }
@@ -105,18 +122,17 @@ fn push_terms(
 }
 
 impl Written {
-    // Adds a statement with this id and predicate, and the path and limits of another.
-    fn add(
-        &mut self,
-        alloc: Global,
-        id: Name,
-        pred: Pred,
-        like: &WrittenStatement,
-    ) -> Result<(), OutOfMemory>
-        ensures { OnOk result (Adds self.old self.new (record like.now { id = id; pred = pred } ∷ [])) }
+    // Adds a statement.
+    fn add(&mut self, alloc: Global, statement: WrittenStatement) -> Result<(), OutOfMemory>
+        ensures { OnOk result (Adds self.old self.new (statement ∷ [])) }
     {
-        push_terms(alloc, &mut self.terms, &id, like.limits.as_slice())?;
-        let path = copy_of_path(alloc, &like.path)?;
+        let WrittenStatement {
+            id,
+            pred,
+            path,
+            limits,
+        } = statement;
+        push_terms(alloc, &mut self.terms, &id, limits.as_slice())?;
         self.statements.push(Statement { id, pred, path })?;
         Ok(())
     }
@@ -130,47 +146,55 @@ impl Written {
         ensures { OnOk result (Adds self.old self.new (map (for_pair statement.now) (enumerate_from 1 pairs.now))) }
     {
         for (place, pair) in pairs.iter().enumerate() {
-            let id = numbered(alloc, &statement.id, place + 1)?;
-            let pred = pred_between(alloc, *pair, &statement.pred)?;
-            self.add(alloc, id, pred, statement)?;
+            let statement = statement_of(alloc, statement, place + 1, *pair)?;
+            self.add(alloc, statement)?;
         }
         Ok(())
     }
 
-    fn add_item(&mut self, alloc: Global, sets: &Sets<'_>, item: &Item) -> Result<(), OutOfMemory>
-        ensures { OnOk result (Adds self.old self.new (written_out (under sets.now) item.now)) }
+    fn add_item(&mut self, alloc: Global, sets: &Sets<'_>, item: Item) -> Result<(), OutOfMemory>
+        ensures { OnOk result (Adds self.old self.new (written_out (under sets.now) item)) }
     {
         match item {
-            Item::One(statement) => {
-                let id = statement.id.copy(alloc)?;
-                let pred = statement.pred.copy(alloc)?;
-                self.add(alloc, id, pred, statement)
-            }
+            Item::One(statement) => self.add(alloc, statement),
             Item::ForEach {
                 outer,
                 inner,
                 statement,
             } => {
-                let pairs = pairs_of(alloc, literals_in(sets, outer), literals_in(sets, inner))?;
-                self.add_pairs(alloc, &pairs, statement)
+                let pairs = pairs_of(alloc, literals_in(sets, &outer), literals_in(sets, &inner))?;
+                self.add_pairs(alloc, &pairs, &statement)
             }
         }
     }
 }
 
-// The statements that the items stand for.
+// The items from the last to the first.
+fn reversed(alloc: Global, items: Items<Item>) -> Result<Items<Item>, OutOfMemory>
+    ensures { IfOk result (λ back. back ≡ reverse items) }
+{
+    let mut left = items;
+    let mut back = Items::new(alloc);
+    'items: while let Some(item) = left.pop() {
+        back.push(item)?;
+    }
+    Ok(back)
+}
+
+// The statements that the items stand for. A statement that stands for itself is moved.
 pub(crate) fn write_out(
     alloc: Global,
     sets: &Sets<'_>,
-    items: &[Item],
+    items: Items<Item>,
 ) -> Result<Written, OutOfMemory>
-    ensures { IfOk result (λ written. Adds (record { statements = []; terms = [] }) written (flat_map (written_out (under sets.now)) items.now)) }
+    ensures { IfOk result (λ written. Adds (record { statements = []; terms = [] }) written (flat_map (written_out (under sets.now)) items)) }
 {
     let mut written = Written {
         statements: Items::new(alloc),
         terms: Items::new(alloc),
     };
-    for item in items {
+    let mut left = reversed(alloc, items)?;
+    'items: while let Some(item) = left.pop() {
         written.add_item(alloc, sets, item)?;
     }
     Ok(written)

@@ -1,9 +1,10 @@
-use Rattle.std.proofs.Common.{[], take}
-use Rattle.std.specs.Prelude.{flat_map}
-use Rattle.policy_expansion.specs.WrittenOut.{written_out}
-use Rattle.policy_expansion.specs.Adding.{Adds}
+use Rattle.std.proofs.Common.{length}
 use Rattle.policy_expansion.specs.Tables.{under}
+use Rattle.policy_expansion.proofs.Consuming.{Written-out}
 use Rattle.policy_expansion.proofs.writing.write_out.Given as goal
 
-abbrev pub invariant-loop-item : goal.invariant-loop-item
-invariant-loop-item l = Adds (record { statements = []; terms = [] }) l.written (flat_map (written_out (under l.sets)) (take l.item-index l.items))
+abbrev pub invariant-items : goal.invariant-items
+invariant-items l = Written-out (under l.sets) l.fn.items l.left l.written
+
+abbrev pub decreases-items : goal.decreases-items
+decreases-items l = length l.left

@@ -21,7 +21,7 @@ impl<T: Drop> From<AllocFailed<T>> for OutOfMemory {
     }
 }
 
-/// How many bytes a text has that needs no allocation.
+// How many bytes a text may have that needs no memory beside the value.
 const SHORT_LENGTH: usize = 14;
 
 // A short text: as many of the bytes as its length says.

@@ -6,7 +6,6 @@ mod faults;
 pub mod laws;
 mod literals;
 mod pairs;
-mod path_copy;
 mod policy;
 mod sets;
 mod writing;

@@ -7,7 +7,6 @@ ghost use Rattle.policy_expansion.specs.Adding.{Adds};
 ghost use Rattle.policy_expansion.specs.Tables.{under};
 
 use crate::pairs::pairs_of;
-use crate::path_copy::copy_of_path;
 use crate::policy::Statement;
 use crate::sets::{Sets, literals_in};
 use merlin_model::policy::{Field, Part, Pred, Term, Test};
@@ -89,7 +88,7 @@ fn statement_of(
     Ok(WrittenStatement {
         id: numbered(alloc, &statement.id, number)?,
         pred: pred_between(alloc, pair, &statement.pred)?,
-        path: copy_of_path(alloc, &statement.path)?,
+        path: statement.path.copy(alloc)?,
         limits: Items::from_slice(alloc, statement.limits.as_slice())?,
     })
 }

@@ -2,5 +2,6 @@
 #![tactic(auto)]
 
 pub mod laws;
+mod path_copy;
 pub mod rows;
 pub mod written;

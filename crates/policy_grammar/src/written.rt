@@ -1,11 +1,8 @@
 //! Policies as they are written, before sets and `foreach` are written out.
 
-ghost use Rattle.std.specs.Prelude.{◌≡◌, IfOk};
-
-use merlin_model::name::{Name, OutOfMemory};
+use merlin_model::name::Name;
 use merlin_model::policy::{Bound, Pred, Term};
 use sqlite_items::{Boxed, Items};
-use std::alloc::Global;
 
 /// A path expression over names as they are written, each with the byte at which it starts.
 #[derive(Drop)]

@@ -1,11 +1,11 @@
 -- One step of the run, by the first token.
-use Rattle.std.proofs.Common.{◌≡◌, ℕ, List, [], ◌∷◌, refl, ◌∙◌, ap}
+use Rattle.std.proofs.Common.{◌≡◌, ℕ, List, [], ◌∷◌, ◌∙◌, ap}
 use Rattle.merlin_text.specs.declared.token.Kind.TheVariants as kinds
 use Rattle.merlin_text.specs.declared.token.Sign.TheVariants as signs
 use Rattle.merlin_text.specs.declared.token.Token.{Token}
 use Rattle.merlin_text.specs.declared.token.Word.{Word}
 use Rattle.merlin_text.specs.declared.token.Word.TheVariants as words
-use Rattle.policy_grammar.specs.Lexemes.{lexeme, lexemes, word}
+use Rattle.policy_grammar.specs.Lexemes.{lexemes}
 use Rattle.policy_grammar.specs.Machine.{State, Head, this_sign, this_word, any_name, outer_set, item, run, at}
 
 -- what is awaited after `foreach`

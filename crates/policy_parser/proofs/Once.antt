@@ -1,5 +1,5 @@
 -- A text is read in one way.
-use Rattle.std.proofs.Common.{ℕ, ◌≡◌, ◌≢◌, ◌⊎◌, inl, inr, List, Result, Ok, Err, refl, sym, ◌∙◌, ap, subst}
+use Rattle.std.proofs.Common.{ℕ, ◌≡◌, ◌⊎◌, inl, inr, List, Result, Ok, Err, refl, sym, ◌∙◌, ap, subst}
 use Rattle.merlin_text.specs.declared.token.Token.{Token}
 use Rattle.merlin_text.specs.declared.token.TokenFault.{TokenFault}
 use Rattle.merlin_text.specs.declared.token.TokenFault.TheVariants as tokens
@@ -15,7 +15,7 @@ use Rattle.policy_expansion.specs.declared.policy.ExpansionFault.TheVariants as 
 use Rattle.policy_expansion.specs.Expansion.{expansion}
 use Rattle.policy_parser.specs.declared.fault.PolicyFault.{PolicyFault}
 use Rattle.policy_parser.specs.declared.fault.PolicyFault.TheVariants.{BadByte, BadNumber, Syntax, DuplicateSet, MixedSet, UnknownSet, TooManyStatements, DuplicateId, OutOfMemory}
-use Rattle.policy_parser.specs.Policies.{IsWritten, IsPolicyText, IsSyntaxFault, IsNotExpanded, IsRefused, IsReading, AreOne, of_tokens, of_expansion, place_of}
+use Rattle.policy_parser.specs.Policies.{IsWritten, IsSyntaxFault, IsNotExpanded, IsReading, AreOne, of_tokens, of_expansion, place_of}
 
 abbrev answer : Result Policy ExpansionFault → Result Policy PolicyFault
 answer (Ok policy) = Ok policy

@@ -1,4 +1,4 @@
-use Rattle.std.proofs.Common.{◌≡◌, ◌-◌, ◌∙◌, ℕ, List, Err, ap, sym, subst}
+use Rattle.std.proofs.Common.{◌≡◌, ◌-◌, ◌∙◌, ℕ, List, Err, ap, subst}
 use Rattle.merlin_text.specs.declared.token.Token.{Token}
 use Rattle.policy_grammar.proofs.PolicyTexts.{sound}
 use Rattle.policy_grammar.specs.Grammar.{StandsFor}

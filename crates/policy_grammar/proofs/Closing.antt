@@ -20,7 +20,10 @@ use Rattle.policy_grammar.specs.declared.written.Tested.{Tested}
 use Rattle.policy_grammar.specs.declared.written.Tested.TheVariants as tested
 use Rattle.policy_grammar.specs.declared.written.WrittenSet.{WrittenSet}
 use Rattle.policy_grammar.specs.declared.written.WrittenPolicy.{WrittenPolicy}
-use Rattle.policy_grammar.specs.Lexemes.{Lexeme, name, word, sign, number, rate, mac, ip}
+use Rattle.std.specs.List.{AllByRecursion}
+use Rattle.merlin_base.specs.Lexemes.{IsDigit, AreDigits, IsLetter, IsNameByte, IsName, IsDecimal, IsHexDigit, IsHexPair, IsOctet, IsThen, AreJoined}
+use Rattle.std.proofs.lemmas.List.Elements.{All-from_recursion}
+use Rattle.policy_grammar.specs.Lexemes.{Lexeme, IsSpelled, name, word, sign, number, rate, mac, ip}
 use Rattle.policy_grammar.specs.Predicates.{all_of, any_of, test_of}
 use Rattle.policy_grammar.specs.PathTexts.{cat_of, alt_of}
 use Rattle.policy_grammar.specs.Machine.{Head, Heading, Opened, Awaited, this_sign, this_word, any_name, literal, negation, lits, conjs, bracket, second, value_of, rep, prim, path_negation, reps, alts, path_bracket, sets, set_start, set_rest, set_more, item, outer_set, inner_set, each_id, statement_pred, statement_path, default_path, limit, limit_rate, limit_rest, formula, terms_rest, term, leading, sum_rest, summand, term_rate, State, on, opens, sign_number, word_number, put, put_path, repeated, is_first, field_at, then_some, begins_rep, closed, listed, with_set, with_limit, with_term, feed_sign, feed_word, feed_name, feed_literal, feed_lits, feed_conjs, feed_pred, feed_second, feed_value, feed_rep, feed_prim, feed_sequence, feed_alts, feed_path, feed_opened, feed_end, feed_sets, feed_set_start, feed_set_rest, feed_set_more, feed_item, feed_outer, feed_inner, feed_each_id, feed_limit, feed_limit_rate, feed_limit_rest, feed_formula, feed_terms_rest, feed_term, feed_leading, feed_sum_rest, feed_summand, feed_term_rate, feed_all, next, run, at, start}
@@ -301,42 +304,98 @@ kept _ _ t (good_sum_rest {w = w} {b = b} {ps = ps}) = kept_sum_rest w b ps t
 kept _ _ t (good_summand {w = w} {b = b} {ps = ps}) = kept_summand w b ps t
 kept _ _ t (good_term_rate {w = w} {b = b} {ps = ps}) = kept_term_rate w b ps t
 
+-- The lexemes by which a state is brought to an end, as texts spell them.
+
+digits : (cs : List ℕ) → AllByRecursion IsDigit cs → AreDigits cs
+digits cs p = All-from_recursion IsDigit cs p
+
+decimal_0 : IsDecimal (codes "0") 0
+decimal_0 = record { digits = digits (codes "0") ((omega arith, omega arith), tt); some = omega arith; short = omega arith; plain = λ _. refl; value = refl }
+
+number_0 : IsSpelled (number 0)
+number_0 = (codes "0", decimal_0, omega arith)
+
+number_1 : IsSpelled (number 1)
+number_1 = (codes "1", record { digits = digits (codes "1") ((omega arith, omega arith), tt); some = omega arith; short = omega arith; plain = λ _. refl; value = refl }, omega arith)
+
+rate_0 : IsSpelled (rate 0)
+rate_0 = (codes "0kbps", record { number = codes "0"; unit = codes "kbps"; n = 0; factor = 1; whole = refl; decimal = decimal_0; known = refl; value = refl; few = omega arith })
+
+octet_0 : IsOctet (codes "0") 0
+octet_0 = (decimal_0, omega arith)
+
+ip_0 : IsSpelled (ip 0)
+ip_0 =
+    let then : (rest : List ℕ) → IsThen IsOctet 46 (codes "0." ++ rest) 0 rest = λ rest. (codes "0", octet_0, refl) in
+    let joined : AreJoined IsOctet 46 (codes "0.0.0.0") (0 ∷ 0 ∷ 0 ∷ 0 ∷ []) =
+    (codes "0.0.0", then (codes "0.0.0"), (codes "0.0", then (codes "0.0"), (codes "0", then (codes "0"), octet_0))) in
+    (codes "0.0.0.0", (0 ∷ 0 ∷ 0 ∷ 0 ∷ [], refl, joined, refl))
+
+digit_0 : IsHexDigit 48 0
+digit_0 = inl (refl, omega arith)
+
+pair_0 : IsHexPair (codes "00") 0
+pair_0 = (0, 0, digit_0, digit_0, refl)
+
+mac_0 : IsSpelled (mac 0)
+mac_0 =
+    let then : (rest : List ℕ) → IsThen IsHexPair 58 (codes "00:" ++ rest) 0 rest = λ rest. (codes "00", pair_0, refl) in
+    let three : AreJoined IsHexPair 58 (codes "00:00:00") (0 ∷ 0 ∷ 0 ∷ []) = (codes "00:00", then (codes "00:00"), (codes "00", then (codes "00"), pair_0)) in
+    let six : AreJoined IsHexPair 58 (codes "00:00:00:00:00:00") (0 ∷ 0 ∷ 0 ∷ 0 ∷ 0 ∷ 0 ∷ []) =
+    (codes "00:00:00:00:00", then (codes "00:00:00:00:00"), (codes "00:00:00:00", then (codes "00:00:00:00"), (codes "00:00:00", then (codes "00:00:00"), three))) in
+    (codes "00:00:00:00:00:00", (0 ∷ 0 ∷ 0 ∷ 0 ∷ 0 ∷ 0 ∷ [], refl, six, refl))
+
+letter : (c : ℕ) → 97 ≤ c → c ≤ 122 → IsLetter c
+letter c low high = inr (inl (low, high))
+
+name_a : IsName (codes "a")
+name_a = record { identifier = (letter 97 (omega arith) (omega arith), All-from_recursion IsNameByte [] tt); short = omega arith; no_word = λ w. cc }
+
+name_src : IsName (codes "src")
+name_src = record {
+  identifier = (letter 115 (omega arith) (omega arith), All-from_recursion IsNameByte (codes "rc") (inl (letter 114 (omega arith) (omega arith)), (inl (letter 99 (omega arith) (omega arith)), tt)));
+  short = omega arith;
+  no_word = λ w. cc;
+}
+
 -- Each such state can be brought to an end, by the shortest lexemes.
 
 pub record IsClosable (k : List Awaited) (n : ℕ) : Type 0 where
   pub more : List Lexeme
+  pub spelled : AllByRecursion IsSpelled more
   pub policy : WrittenPolicy
   pub goes : run more (at k n) ≡ Ok policy
 
-by_lexeme : {k l : List Awaited} {n m : ℕ} (t : Lexeme) → feed_all k n t ≡ on l m → IsClosable l m → IsClosable k n
-by_lexeme t e c = record { more = t ∷ c.more; policy = c.policy; goes = ap (λ o. next o (suc (length c.more)) (λ u. run c.more u)) e ∙ c.goes }
+by_lexeme : {k l : List Awaited} {n m : ℕ} (t : Lexeme) → IsSpelled t → feed_all k n t ≡ on l m → IsClosable l m → IsClosable k n
+by_lexeme t h e c = record { more = t ∷ c.more; spelled = (h, c.spelled); policy = c.policy; goes = ap (λ o. next o (suc (length c.more)) (λ u. run c.more u)) e ∙ c.goes }
 
 true_of : (b : Bool) → T b → b ≡ true
 true_of true h = refl
 true_of false h = absurd h
 
 closes_sign : (s : Sign) {k : List Awaited} {n : ℕ} → IsClosable k n → IsClosable (this_sign s ∷ k) n
-closes_sign s {k = k} {n = n} c = by_lexeme (sign s) (ap (λ b. cond b (on k n) None) (true_of (sign_number s == sign_number s) (eqb_refl (sign_number s)))) c
+closes_sign s {k = k} {n = n} c = by_lexeme (sign s) tt (ap (λ b. cond b (on k n) None) (true_of (sign_number s == sign_number s) (eqb_refl (sign_number s)))) c
 
 closes_word : (s : Word) {k : List Awaited} {n : ℕ} → IsClosable k n → IsClosable (this_word s ∷ k) n
-closes_word s {k = k} {n = n} c = by_lexeme (word s) (ap (λ b. cond b (on k n) None) (true_of (word_number s == word_number s) (eqb_refl (word_number s)))) c
+closes_word s {k = k} {n = n} c = by_lexeme (word s) tt (ap (λ b. cond b (on k n) None) (true_of (word_number s == word_number s) (eqb_refl (word_number s)))) c
 
 closes_formula : (w : WrittenPolicy) (n : ℕ) → IsClosable (formula w ∷ []) n
-closes_formula w n = record { more = []; policy = w; goes = refl }
+closes_formula w n = record { more = []; spelled = tt; policy = w; goes = refl }
 
 closes_item : (h : Head) (n : ℕ) → IsClosable (item h ∷ []) n
-closes_item h n = by_lexeme (sign signs.CloseList) refl (closes_formula (listed h None) 0)
+closes_item h n = by_lexeme (sign signs.CloseList) tt refl (closes_formula (listed h None) 0)
 
 closes_sets : (ss : List WrittenSet) (n : ℕ) → IsClosable (sets ss ∷ []) n
-closes_sets ss n = by_lexeme (sign signs.OpenList) refl (closes_item (record { sets = ss; items = [] }) 0)
+closes_sets ss n = by_lexeme (sign signs.OpenList) tt refl (closes_item (record { sets = ss; items = [] }) 0)
 
 closes_set_rest : (ss : List WrittenSet) (a : List ℕ) (ls : List Literal) (n : ℕ) → IsClosable (set_rest ss a ls ∷ []) n
-closes_set_rest ss a ls n = by_lexeme (sign signs.CloseSet) refl (closes_sets (with_set ss a ls) 0)
+closes_set_rest ss a ls n = by_lexeme (sign signs.CloseSet) tt refl (closes_sets (with_set ss a ls) 0)
 
 -- A path is ended by a bracket or by the end of the list.
 
 record IsPathClosable (k : List Awaited) (n : ℕ) : Type 0 where
   first : Lexeme
+  spelled : IsSpelled first
   no_star : (p : RawPath) (b : Bool) (l : List Awaited) → feed_prim p b l n first ≡ feed_sequence (put_path (repeated b p) l) n first
   below : List Awaited
   left : ℕ
@@ -344,7 +403,7 @@ record IsPathClosable (k : List Awaited) (n : ℕ) : Type 0 where
   closes : IsClosable below left
 
 closes_prim : (p : RawPath) (b : Bool) (k : List Awaited) (n : ℕ) → IsPathClosable (put_path (repeated b p) k) n → IsClosable (prim p b ∷ k) n
-closes_prim p b k n c = by_lexeme c.first (c.no_star p b k ∙ c.goes) c.closes
+closes_prim p b k n c = by_lexeme c.first c.spelled (c.no_star p b k ∙ c.goes) c.closes
 
 at_bracket : (ps : List RawPath) (k : List Awaited) (n : ℕ) → feed_alts ps (path_bracket ∷ k) n (sign signs.CloseGroup) ≡ on (prim (alt_of ps) false ∷ k) n
 at_bracket ps k zero = refl
@@ -360,6 +419,7 @@ closes_rep q _ n (in_seq {ls = ls} {ps = ps} (in_path_bracket {k = k} g)) =
     let p = alt_of (ps ++ cat_of (ls ++ q ∷ []) ∷ []) in
     record {
       first = sign signs.CloseGroup;
+      spelled = tt;
       no_star = λ p b l. refl;
       below = prim p false ∷ k;
       left = n;
@@ -371,6 +431,7 @@ closes_rep q _ n (in_seq {ls = ls} {ps = ps} (of_statement {h = h} {p = pred})) 
     let o : Opened = record { heading = h; pred = pred; path = p; limits = [] } in
     record {
       first = sign signs.CloseList;
+      spelled = tt;
       no_star = λ p b l. refl;
       below = formula (listed (closed o) None) ∷ [];
       left = 0;
@@ -381,6 +442,7 @@ closes_rep q _ n (in_seq {ls = ls} {ps = ps} (of_default {h = h})) =
     let p = alt_of (ps ++ cat_of (ls ++ q ∷ []) ∷ []) in
     record {
       first = sign signs.CloseList;
+      spelled = tt;
       no_star = λ p b l. refl;
       below = formula (listed h (Some p)) ∷ [];
       left = 0;
@@ -390,35 +452,35 @@ closes_rep q _ n (in_seq {ls = ls} {ps = ps} (of_default {h = h})) =
 
 closes_path : (k : List Awaited) (n : ℕ) → 1 ≤ n → TakesRep k → IsClosable (rep ∷ k) n
 closes_path k zero h g = absurd (omega arith)
-closes_path k (suc n) h g = by_lexeme (sign signs.Dot) refl (closes_prim Dot false k n (closes_rep Dot k n g))
+closes_path k (suc n) h g = by_lexeme (sign signs.Dot) tt refl (closes_prim Dot false k n (closes_rep Dot k n g))
 
 -- A predicate is ended by its brackets and a path.
 
 closes_lit : (p : Pred) (k : List Awaited) (n : ℕ) → TakesLit k → IsClosable (put p k) n
 closes_lit p _ n (banged {k = k} g) = closes_lit (Not p) k n g
 closes_lit p _ n (in_conj {ls = ls} {ps = ps} (in_bracket {k = k} g)) =
-    by_lexeme (sign signs.CloseGroup) refl (closes_lit (any_of (ps ++ all_of (ls ++ p ∷ []) ∷ [])) k n g)
+    by_lexeme (sign signs.CloseGroup) tt refl (closes_lit (any_of (ps ++ all_of (ls ++ p ∷ []) ∷ [])) k n g)
 closes_lit p _ n (in_conj {ls = ls} {ps = ps} (in_statement {h = h})) =
-    by_lexeme (sign signs.Arrow) refl (closes_path (reps [] ∷ alts [] ∷ statement_path h (any_of (ps ++ all_of (ls ++ p ∷ []) ∷ [])) ∷ []) 2048 (omega arith) (in_seq of_statement))
+    by_lexeme (sign signs.Arrow) tt refl (closes_path (reps [] ∷ alts [] ∷ statement_path h (any_of (ps ++ all_of (ls ++ p ∷ []) ∷ [])) ∷ []) 2048 (omega arith) (in_seq of_statement))
 
 closes_literal : (k : List Awaited) (n : ℕ) → TakesLit k → IsClosable (literal ∷ k) n
-closes_literal k n g = by_lexeme (word words.True) refl (closes_lit Yes k n g)
+closes_literal k n g = by_lexeme (word words.True) tt refl (closes_lit Yes k n g)
 
 closes_value : (f : Tested) (k : List Awaited) (n : ℕ) → TakesLit k → IsClosable (value_of f ∷ k) n
-closes_value tested.EthSrc k n g = by_lexeme (mac 0) refl (closes_lit (Tests (Is EthSrc 0)) k n g)
-closes_value tested.EthDst k n g = by_lexeme (mac 0) refl (closes_lit (Tests (Is EthDst 0)) k n g)
-closes_value tested.IpSrc k n g = by_lexeme (ip 0) refl (closes_lit (Tests (Is IpSrc 0)) k n g)
-closes_value tested.IpDst k n g = by_lexeme (ip 0) refl (closes_lit (Tests (Is IpDst 0)) k n g)
-closes_value tested.IpProto k n g = by_lexeme (number 1) refl (closes_lit (Tests (Is Proto 1)) k n g)
-closes_value tested.TcpSrc k n g = by_lexeme (number 0) refl (closes_lit (Tests (Port 6 Sport 0)) k n g)
-closes_value tested.TcpDst k n g = by_lexeme (number 0) refl (closes_lit (Tests (Port 6 Dport 0)) k n g)
-closes_value tested.UdpSrc k n g = by_lexeme (number 0) refl (closes_lit (Tests (Port 17 Sport 0)) k n g)
-closes_value tested.UdpDst k n g = by_lexeme (number 0) refl (closes_lit (Tests (Port 17 Dport 0)) k n g)
+closes_value tested.EthSrc k n g = by_lexeme (mac 0) mac_0 refl (closes_lit (Tests (Is EthSrc 0)) k n g)
+closes_value tested.EthDst k n g = by_lexeme (mac 0) mac_0 refl (closes_lit (Tests (Is EthDst 0)) k n g)
+closes_value tested.IpSrc k n g = by_lexeme (ip 0) ip_0 refl (closes_lit (Tests (Is IpSrc 0)) k n g)
+closes_value tested.IpDst k n g = by_lexeme (ip 0) ip_0 refl (closes_lit (Tests (Is IpDst 0)) k n g)
+closes_value tested.IpProto k n g = by_lexeme (number 1) number_1 refl (closes_lit (Tests (Is Proto 1)) k n g)
+closes_value tested.TcpSrc k n g = by_lexeme (number 0) number_0 refl (closes_lit (Tests (Port 6 Sport 0)) k n g)
+closes_value tested.TcpDst k n g = by_lexeme (number 0) number_0 refl (closes_lit (Tests (Port 6 Dport 0)) k n g)
+closes_value tested.UdpSrc k n g = by_lexeme (number 0) number_0 refl (closes_lit (Tests (Port 17 Sport 0)) k n g)
+closes_value tested.UdpDst k n g = by_lexeme (number 0) number_0 refl (closes_lit (Tests (Port 17 Dport 0)) k n g)
 
 -- the four first names, each of which has a field `src`
 closes_field : (a : List ℕ) (f : Tested) (k : List Awaited) (n : ℕ) → field_at a (codes "src") ≡ Some f → TakesLit k → IsClosable (second a ∷ k) n
 closes_field a f k n e g =
-    by_lexeme (name (codes "src") 0) (ap (λ o. then_some o (λ f. on (this_sign signs.Equals ∷ value_of f ∷ k) n)) e) (closes_sign signs.Equals (closes_value f k n g))
+    by_lexeme (name (codes "src") 0) name_src (ap (λ o. then_some o (λ f. on (this_sign signs.Equals ∷ value_of f ∷ k) n)) e) (closes_sign signs.Equals (closes_value f k n g))
 
 either : (x y : Bool) → (x || y) ≡ true → (x ≡ true) ⊎ (y ≡ true)
 either true y e = inl refl
@@ -443,58 +505,58 @@ abbrev some_name : Lexeme
 some_name = name (codes "a") 0
 
 closes_each_id : (h : Head) (a b : List ℕ) (n : ℕ) → IsClosable (each_id h a b ∷ []) n
-closes_each_id h a b n = by_lexeme some_name refl (closes_statement (record { head = h; pair = Some (a, b); id = codes "a" }) 4096)
+closes_each_id h a b n = by_lexeme some_name name_a refl (closes_statement (record { head = h; pair = Some (a, b); id = codes "a" }) 4096)
 
 closes_inner : (h : Head) (a : List ℕ) (n : ℕ) → IsClosable (inner_set h a ∷ []) n
-closes_inner h a n = by_lexeme some_name refl (closes_sign signs.CloseGroup (closes_sign signs.Colon (closes_each_id h a (codes "a") 0)))
+closes_inner h a n = by_lexeme some_name name_a refl (closes_sign signs.CloseGroup (closes_sign signs.Colon (closes_each_id h a (codes "a") 0)))
 
 closes_outer : (h : Head) (n : ℕ) → IsClosable (outer_set h ∷ []) n
-closes_outer h n = by_lexeme some_name refl (closes_sign signs.Comma (closes_inner h (codes "a") 0))
+closes_outer h n = by_lexeme some_name name_a refl (closes_sign signs.Comma (closes_inner h (codes "a") 0))
 
 closes_limit_rest : (o : Opened) (n : ℕ) → IsClosable (limit_rest o ∷ []) n
-closes_limit_rest o n = by_lexeme (sign signs.CloseList) refl (closes_formula (listed (closed o) None) 0)
+closes_limit_rest o n = by_lexeme (sign signs.CloseList) tt refl (closes_formula (listed (closed o) None) 0)
 
 closes_limit_rate : (o : Opened) (b : Bound) (n : ℕ) → IsClosable (limit_rate o b ∷ []) n
-closes_limit_rate o b n = by_lexeme (rate 0) refl (closes_sign signs.CloseGroup (closes_limit_rest (with_limit o b 0) 0))
+closes_limit_rate o b n = by_lexeme (rate 0) rate_0 refl (closes_sign signs.CloseGroup (closes_limit_rest (with_limit o b 0) 0))
 
 closes_terms_rest : (w : WrittenPolicy) (n : ℕ) → IsClosable (terms_rest w ∷ []) n
-closes_terms_rest w n = record { more = []; policy = w; goes = refl }
+closes_terms_rest w n = record { more = []; spelled = tt; policy = w; goes = refl }
 
 closes_term_rate : (w : WrittenPolicy) (b : Bound) (ps : List Part) (n : ℕ) → IsClosable (term_rate w b ps ∷ []) n
-closes_term_rate w b ps n = by_lexeme (rate 0) refl (closes_sign signs.CloseGroup (closes_terms_rest (with_term w b ps 0) 0))
+closes_term_rate w b ps n = by_lexeme (rate 0) rate_0 refl (closes_sign signs.CloseGroup (closes_terms_rest (with_term w b ps 0) 0))
 
 closes_sum_rest : (w : WrittenPolicy) (b : Bound) (ps : List Part) (n : ℕ) → IsClosable (sum_rest w b ps ∷ []) n
-closes_sum_rest w b ps n = by_lexeme (sign signs.Comma) refl (closes_term_rate w b ps 0)
+closes_sum_rest w b ps n = by_lexeme (sign signs.Comma) tt refl (closes_term_rate w b ps 0)
 
 closes_leading : (w : WrittenPolicy) (b : Bound) (ps : List Part) (n : ℕ) → IsClosable (leading w b ps ∷ []) n
-closes_leading w b ps n = by_lexeme some_name refl (closes_sum_rest w b (ps ++ Id (codes "a") ∷ []) 0)
+closes_leading w b ps n = by_lexeme some_name name_a refl (closes_sum_rest w b (ps ++ Id (codes "a") ∷ []) 0)
 
 pub closes : (k : List Awaited) (n : ℕ) → Good k n → IsClosable k n
 closes _ _ (good_sign {s = s} {k = k} {n = n} g) = closes_sign s (closes k n g)
 closes _ _ (good_word {s = s} {k = k} {n = n} g) = closes_word s (closes k n g)
-closes _ _ (good_name {k = k} {n = n} g) = by_lexeme some_name refl (closes k n g)
+closes _ _ (good_name {k = k} {n = n} g) = by_lexeme some_name name_a refl (closes k n g)
 closes _ _ (good_literal {k = k} {n = n} g) = closes_literal k n g
-closes _ _ (good_lits {ls = ls} {ps = ps} {n = n} (in_bracket {k = k} g)) = by_lexeme (sign signs.CloseGroup) refl (closes_lit (any_of (ps ++ all_of ls ∷ [])) k n g)
-closes _ _ (good_lits {ls = ls} {ps = ps} (in_statement {h = h})) = by_lexeme (sign signs.Arrow) refl (closes_path (reps [] ∷ alts [] ∷ statement_path h (any_of (ps ++ all_of ls ∷ [])) ∷ []) 2048 (omega arith) (in_seq of_statement))
+closes _ _ (good_lits {ls = ls} {ps = ps} {n = n} (in_bracket {k = k} g)) = by_lexeme (sign signs.CloseGroup) tt refl (closes_lit (any_of (ps ++ all_of ls ∷ [])) k n g)
+closes _ _ (good_lits {ls = ls} {ps = ps} (in_statement {h = h})) = by_lexeme (sign signs.Arrow) tt refl (closes_path (reps [] ∷ alts [] ∷ statement_path h (any_of (ps ++ all_of ls ∷ [])) ∷ []) 2048 (omega arith) (in_seq of_statement))
 closes _ _ (good_second {a = a} {k = k} {n = n} e g) = closes_second a k n e g
 closes _ _ (good_value {f = f} {k = k} {n = n} g) = closes_value f k n g
 closes _ _ (good_rep {k = k} {n = n} h g) = closes_path k n h g
 closes _ _ (good_prim {p = p} {b = b} {k = k} {n = n} g) = closes_prim p b k n (closes_rep (repeated b p) k n g)
 closes _ _ (good_sets {ss = ss} {n = n}) = closes_sets ss n
-closes _ _ (good_set_start {ss = ss} {a = a}) = by_lexeme (sign signs.CloseSet) refl (closes_sets (with_set ss a []) 0)
+closes _ _ (good_set_start {ss = ss} {a = a}) = by_lexeme (sign signs.CloseSet) tt refl (closes_sets (with_set ss a []) 0)
 closes _ _ (good_set_rest {ss = ss} {a = a} {ls = ls} {n = n}) = closes_set_rest ss a ls n
-closes _ _ (good_set_more {ss = ss} {a = a} {ls = ls}) = by_lexeme (ip 0) refl (closes_set_rest ss a (ls ++ Ip 0 ∷ []) 0)
+closes _ _ (good_set_more {ss = ss} {a = a} {ls = ls}) = by_lexeme (ip 0) ip_0 refl (closes_set_rest ss a (ls ++ Ip 0 ∷ []) 0)
 closes _ _ (good_item {h = h} {n = n}) = closes_item h n
 closes _ _ (good_outer {h = h} {n = n}) = closes_outer h n
 closes _ _ (good_inner {h = h} {a = a} {n = n}) = closes_inner h a n
 closes _ _ (good_each_id {h = h} {a = a} {b = b} {n = n}) = closes_each_id h a b n
-closes _ _ (good_limit {o = o}) = by_lexeme (word words.Max) refl (closes_sign signs.OpenGroup (closes_limit_rate o Max 0))
+closes _ _ (good_limit {o = o}) = by_lexeme (word words.Max) tt refl (closes_sign signs.OpenGroup (closes_limit_rate o Max 0))
 closes _ _ (good_limit_rate {o = o} {b = b} {n = n}) = closes_limit_rate o b n
 closes _ _ (good_limit_rest {o = o} {n = n}) = closes_limit_rest o n
 closes _ _ (good_formula {w = w} {n = n}) = closes_formula w n
 closes _ _ (good_terms_rest {w = w} {n = n}) = closes_terms_rest w n
-closes _ _ (good_term {w = w}) = by_lexeme (word words.Max) refl (closes_sign signs.OpenGroup (closes_leading w Max [] 0))
+closes _ _ (good_term {w = w}) = by_lexeme (word words.Max) tt refl (closes_sign signs.OpenGroup (closes_leading w Max [] 0))
 closes _ _ (good_leading {w = w} {b = b} {ps = ps} {n = n}) = closes_leading w b ps n
 closes _ _ (good_sum_rest {w = w} {b = b} {ps = ps} {n = n}) = closes_sum_rest w b ps n
-closes _ _ (good_summand {w = w} {b = b} {ps = ps}) = by_lexeme some_name refl (closes_sum_rest w b (ps ++ Id (codes "a") ∷ []) 0)
+closes _ _ (good_summand {w = w} {b = b} {ps = ps}) = by_lexeme some_name name_a refl (closes_sum_rest w b (ps ++ Id (codes "a") ∷ []) 0)
 closes _ _ (good_term_rate {w = w} {b = b} {ps = ps} {n = n}) = closes_term_rate w b ps n

@@ -4,7 +4,8 @@ use Rattle.std.proofs.lemmas.Bool.{cases_lt}
 use Rattle.std.proofs.lemmas.List.{take-append-drop, take-append-le}
 use Rattle.std.proofs.Math.Seq.{take-append_seam, take-append-add}
 use Rattle.policy_grammar.specs.declared.written.WrittenPolicy.{WrittenPolicy}
-use Rattle.policy_grammar.specs.Lexemes.{Lexeme}
+use Rattle.std.specs.List.{AllByRecursion}
+use Rattle.policy_grammar.specs.Lexemes.{Lexeme, IsSpelled}
 use Rattle.policy_grammar.specs.Grammar.{StandsFor, Begins, IsFaultAt}
 use Rattle.policy_grammar.specs.Machine.{State, feed, next, run, finish, start}
 use Rattle.policy_grammar.proofs.PolicyTexts.{complete, sound}
@@ -18,28 +19,43 @@ err_inj e = cc
 
 -- Of the grammar alone: a text has one fault at most, and none where it stands for a policy.
 
-begins-front : (ts : List Lexeme) (n : ℕ) → Begins ts → Begins (take n ts)
-begins-front ts n b = record {
+both_spelled : (ts us : List Lexeme) → AllByRecursion IsSpelled ts → AllByRecursion IsSpelled us → AllByRecursion IsSpelled (ts ++ us)
+both_spelled [] us p q = q
+both_spelled (t ∷ ts) us p q = (p.0, both_spelled ts us p.1 q)
+
+drop_spelled : (n : ℕ) (ts : List Lexeme) → AllByRecursion IsSpelled ts → AllByRecursion IsSpelled (drop n ts)
+drop_spelled zero ts p = p
+drop_spelled (suc n) [] p = p
+drop_spelled (suc n) (t ∷ ts) p = drop_spelled n ts p.1
+
+take_spelled : (n : ℕ) (ts : List Lexeme) → AllByRecursion IsSpelled ts → AllByRecursion IsSpelled (take n ts)
+take_spelled zero ts p = tt
+take_spelled (suc n) [] p = p
+take_spelled (suc n) (t ∷ ts) p = (p.0, take_spelled n ts p.1)
+
+begins-front : (ts : List Lexeme) (n : ℕ) → AllByRecursion IsSpelled ts → Begins ts → Begins (take n ts)
+begins-front ts n real b = record {
   more = drop n ts ++ b.more;
+  spelled = both_spelled (drop n ts) b.more (drop_spelled n ts real) b.spelled;
   policy = b.policy;
   stands = subst (λ xs. StandsFor xs b.policy) (ap (λ xs. xs ++ b.more) (sym (take-append-drop n ts)) ∙ append_assoc (take n ts) (drop n ts) b.more) b.stands;
 }
 
-no_earlier : (ts : List Lexeme) (m n : ℕ) → m < n → IsFaultAt ts m → IsFaultAt ts n → ⊥
-no_earlier ts m n h f g =
+no_earlier : (ts : List Lexeme) (m n : ℕ) → AllByRecursion IsSpelled ts → m < n → IsFaultAt ts m → IsFaultAt ts n → ⊥
+no_earlier ts m n real h f g =
     let inside : suc m ≤ length (take n ts) = omega (arith, g.within, length-take n ts) in
     let front : take (suc m) (take n ts) ≡ take (suc m) ts = sym (take-append-le (suc m) (take n ts) (drop n ts) inside) ∙ ap (λ xs. take (suc m) xs) (take-append-drop n ts) in
-    f.token (omega (arith, g.within)) (subst Begins front (begins-front (take n ts) (suc m) g.before))
+    f.token (omega (arith, g.within)) (subst Begins front (begins-front (take n ts) (suc m) (take_spelled n ts real) g.before))
 
-pub one_fault : (ts : List Lexeme) (m n : ℕ) → IsFaultAt ts m → IsFaultAt ts n → m ≡ n
-one_fault ts m n f g = ⊎_elim
-    (λ h. absurd (no_earlier ts m n h f g))
-    (λ h. ⊎_elim (λ less. absurd (no_earlier ts n m less g f)) (λ more. omega (arith, h, more)) (cases_lt n m))
+pub one_fault : (ts : List Lexeme) (m n : ℕ) → AllByRecursion IsSpelled ts → IsFaultAt ts m → IsFaultAt ts n → m ≡ n
+one_fault ts m n real f g = ⊎_elim
+    (λ h. absurd (no_earlier ts m n real h f g))
+    (λ h. ⊎_elim (λ less. absurd (no_earlier ts n m real less g f)) (λ more. omega (arith, h, more)) (cases_lt n m))
     (cases_lt m n)
 
-pub fault-no_policy : (ts : List Lexeme) (n : ℕ) (w : WrittenPolicy) → IsFaultAt ts n → ¬ StandsFor ts w
-fault-no_policy ts n w f s = ⊎_elim
-    (λ h. f.token h (begins-front ts (suc n) (record { more = []; policy = w; stands = subst (λ xs. StandsFor xs w) (sym (append-nil ts)) s })))
+pub fault-no_policy : (ts : List Lexeme) (n : ℕ) (w : WrittenPolicy) → AllByRecursion IsSpelled ts → IsFaultAt ts n → ¬ StandsFor ts w
+fault-no_policy ts n w real f s = ⊎_elim
+    (λ h. f.token h (begins-front ts (suc n) real (record { more = []; spelled = tt; policy = w; stands = subst (λ xs. StandsFor xs w) (sym (append-nil ts)) s })))
     (λ h. f.end (omega (arith, f.within)) w s)
     (cases_lt n (length ts))
 
@@ -109,7 +125,7 @@ bounded ts s m e = let a = stopped ts s m e in omega (arith, ap length a.is, len
 begins : (front : List Lexeme) (u : State) → steps front start ≡ Some u → Begins front
 begins front u reached =
     let c = closes u.awaited u.left (steps-good front start u start_good reached) in
-    record { more = c.more; policy = c.policy; stands = sound (front ++ c.more) c.policy (run-steps front c.more start u reached ∙ c.goes) }
+    record { more = c.more; spelled = c.spelled; policy = c.policy; stands = sound (front ++ c.more) c.policy (run-steps front c.more start u reached ∙ c.goes) }
 
 -- with a lexeme that nothing goes on with no policy begins
 no_more : (front rest : List Lexeme) (u : State) → steps front start ≡ Some u → IsStuck rest u → 0 < length rest → Begins (take (suc (length front)) (front ++ rest)) → ⊥

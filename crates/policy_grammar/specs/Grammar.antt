@@ -18,7 +18,7 @@ use Rattle.policy_grammar.specs.declared.written.WrittenStatement.{WrittenStatem
 use Rattle.policy_grammar.specs.declared.written.Item.{Item}
 use Rattle.policy_grammar.specs.declared.written.Item.TheVariants.{One, ForEach}
 use Rattle.policy_grammar.specs.declared.written.WrittenPolicy.{WrittenPolicy}
-use Rattle.policy_grammar.specs.Lexemes.{Lexeme, name, word, sign, rate, mac, ip, separated}
+use Rattle.policy_grammar.specs.Lexemes.{Lexeme, IsSpelled, name, word, sign, rate, mac, ip, separated}
 use Rattle.policy_grammar.specs.Predicates.{Disj, spell_pred, pred_value, IsWithin as IsPredWithin}
 use Rattle.policy_grammar.specs.PathTexts.{Alts, spell_path, path_value, IsWithin as IsPathWithin}
 
@@ -209,9 +209,10 @@ pub record StandsFor (lexemes : List Lexeme) (policy : WrittenPolicy) : Type 0 w
   pub is : policy_value phrase ≡ policy
   pub within : IsListWithin phrase.list
 
--- The lexemes begin some policy.
+-- The lexemes begin some policy: with some more, which texts can have, they are one.
 pub record Begins (lexemes : List Lexeme) : Type 0 where
   pub more : List Lexeme
+  pub spelled : AllByRecursion IsSpelled more
   pub policy : WrittenPolicy
   pub stands : StandsFor (lexemes ++ more) policy
 

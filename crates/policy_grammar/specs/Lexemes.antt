@@ -1,5 +1,6 @@
 -- Tokens as the grammar has them: a name with its text and the byte at which it starts, all others by their kind.
-use Rattle.std.specs.Prelude.{if◌then◌else◌, ℕ, List, [], ◌∷◌, ◌++◌, map, length, slice_range, nat_le, ◌&&◌}
+use Rattle.std.specs.Prelude.{if◌then◌else◌, ℕ, ◌≤◌, ⊤, List, [], ◌∷◌, ◌++◌, map, length, slice_range, nat_le, ◌&&◌}
+use Rattle.merlin_base.specs.Lexemes.{IsName, IsDecimal, IsRate, IsMac, IsIp}
 use Rattle.merlin_text.specs.declared.token.Kind.TheVariants as kinds
 use Rattle.merlin_text.specs.declared.token.Word.{Word}
 use Rattle.merlin_text.specs.declared.token.Sign.{Sign}
@@ -13,6 +14,16 @@ pub data Lexeme : Type 0 where
   rate : ℕ → Lexeme
   mac : ℕ → Lexeme
   ip : ℕ → Lexeme
+
+-- some text spells the lexeme: a name is a name and no word, numbers are in their ranges
+abbrev pub IsSpelled : Lexeme → Type 0
+IsSpelled (name text _) = IsName text
+IsSpelled (word _) = ⊤
+IsSpelled (sign _) = ⊤
+IsSpelled (number n) = (text : List ℕ) × IsDecimal text n × (n ≤ 65535)
+IsSpelled (rate n) = (text : List ℕ) × IsRate text n
+IsSpelled (mac n) = (text : List ℕ) × IsMac text n
+IsSpelled (ip n) = (text : List ℕ) × IsIp text n
 
 -- the text of a token; nothing where its ends are none of the bytes
 abbrev pub text_of : List ℕ → Token → List ℕ

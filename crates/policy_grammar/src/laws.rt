@@ -2,7 +2,8 @@
 
 ghost use Rattle.std.specs.Prelude.{◌≡◌, ◌≤◌, ◌-◌, ℕ, List, length, Ok, Err, ◌⊎◌};
 ghost use Rattle.policy_grammar.specs.declared.written.WrittenPolicy.{WrittenPolicy};
-ghost use Rattle.policy_grammar.specs.Lexemes.{Lexeme};
+ghost use Rattle.std.specs.List.{AllByRecursion};
+ghost use Rattle.policy_grammar.specs.Lexemes.{Lexeme, IsSpelled};
 ghost use Rattle.policy_grammar.specs.Grammar.{StandsFor, IsFaultAt};
 ghost use Rattle.policy_grammar.specs.Machine.{run, start};
 
@@ -31,12 +32,12 @@ pub fn policy_or_fault()
     ensures { (lexemes : List Lexeme) → ((policy : WrittenPolicy) × StandsFor lexemes policy) ⊎ ((n : ℕ) × IsFaultAt lexemes n) }
 {}
 
-/// Lexemes stop being a policy at one place.
+/// Lexemes that texts can have stop being a policy at one place.
 pub fn one_fault()
-    ensures { (lexemes : List Lexeme) (m n : ℕ) → IsFaultAt lexemes m → IsFaultAt lexemes n → m ≡ n }
+    ensures { (lexemes : List Lexeme) (m n : ℕ) → AllByRecursion IsSpelled lexemes → IsFaultAt lexemes m → IsFaultAt lexemes n → m ≡ n }
 {}
 
-/// Lexemes that stop being a policy somewhere stand for none.
+/// Lexemes that texts can have and that stop being a policy somewhere stand for none.
 pub fn fault_is_no_policy()
-    ensures { (lexemes : List Lexeme) (n : ℕ) (policy : WrittenPolicy) → IsFaultAt lexemes n → ¬ StandsFor lexemes policy }
+    ensures { (lexemes : List Lexeme) (n : ℕ) (policy : WrittenPolicy) → AllByRecursion IsSpelled lexemes → IsFaultAt lexemes n → ¬ StandsFor lexemes policy }
 {}

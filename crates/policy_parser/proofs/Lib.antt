@@ -1,4 +1,5 @@
 pub mod Stars
 pub mod Firsts
 pub mod Told
+pub mod Spelled
 pub mod Once

@@ -9,6 +9,7 @@ use Rattle.policy_grammar.specs.declared.written.WrittenPolicy.{WrittenPolicy}
 use Rattle.policy_grammar.specs.Lexemes.{lexemes}
 use Rattle.policy_grammar.specs.Grammar.{StandsFor, IsFaultAt}
 use Rattle.policy_grammar.proofs.Faults.{one_fault as one_place, one_policy, fault-no_policy}
+use Rattle.policy_parser.proofs.Spelled.{all_spelled}
 use Rattle.policy_expansion.specs.declared.policy.Policy.{Policy}
 use Rattle.policy_expansion.specs.declared.policy.ExpansionFault.{ExpansionFault}
 use Rattle.policy_expansion.specs.declared.policy.ExpansionFault.TheVariants as written
@@ -55,13 +56,13 @@ one_syntax : (text : List ℕ) (a b : ℕ) → IsSyntaxFault text a → IsSyntax
 one_syntax text a b p q =
     let same : p.tokens ≡ q.tokens = tokens_once text p.tokens q.tokens p.cut q.cut in
     let here : IsFaultAt (lexemes text p.tokens) q.number = subst (λ ts. IsFaultAt (lexemes text ts) q.number) (sym same) q.fault in
-    let number : p.number ≡ q.number = one_place (lexemes text p.tokens) p.number q.number p.fault here in
+    let number : p.number ≡ q.number = one_place (lexemes text p.tokens) p.number q.number (all_spelled text p.tokens p.cut) p.fault here in
     p.place ∙ ap (place_of text p.tokens) number ∙ ap (λ ts. place_of text ts q.number) same ∙ sym q.place
 
 no_syntax : (text : List ℕ) (a : ℕ) (w : WrittenPolicy) → IsSyntaxFault text a → IsWritten text w → ⊥
 no_syntax text a w p q =
     let same : q.tokens ≡ p.tokens = tokens_once text q.tokens p.tokens q.cut p.cut in
-    fault-no_policy (lexemes text p.tokens) p.number w p.fault (subst (λ ts. StandsFor (lexemes text ts) w) same q.stands)
+    fault-no_policy (lexemes text p.tokens) p.number w (all_spelled text p.tokens p.cut) p.fault (subst (λ ts. StandsFor (lexemes text ts) w) same q.stands)
 
 one_written : (text : List ℕ) (v w : WrittenPolicy) → IsWritten text v → IsWritten text w → v ≡ w
 one_written text v w p q =

@@ -8,3 +8,4 @@ pub mod Walks
 pub mod WeightsAt
 pub mod WeightTests
 pub mod RightSides
+pub mod Clearing

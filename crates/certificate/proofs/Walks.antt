@@ -7,7 +7,7 @@ use Rattle.merlin_model.specs.declared.certificate.Weight.{Weight}
 use Rattle.merlin_model.specs.declared.certificate.Tree.{Tree, Leaf, Split, Unclosed}
 use Rattle.merlin_model.specs.Programs.{Program, variables}
 use Rattle.merlin_model.specs.Trees.{fixed_at, fix, IsOpen, IsInBox, RefutesBox, Node, Leaf_node, Split_node, Open_end, nodes_of, nodes_of-Split, IsSoundNode, Refutes, FailsAt, root_box}
-use Rattle.certificate.specs.Answers.{IsAnswer}
+use Rattle.certificate.specs.Checks.{IsTreeCheck}
 use Rattle.certificate.proofs.Narrowing.{split_refutes}
 
 abbrev Nodes : Type 0
@@ -57,24 +57,24 @@ all_sound program (x ∷ xs) (suc k) f sound = all_sound program xs k (record { 
 
 -- The answers, case by case.
 
-pub leaf_sound : (program : Program) (tree : Tree) (weights : List Weight) (box : List (Option Bool)) (at next : ℕ) → tree ≡ Leaf weights → RefutesBox program box weights → (at + 1 < 2 ^ 64 → next ≡ at + 1) → IsAnswer program tree box at (Ok next)
-leaf_sound program tree weights box at next e refutes counts = subst (λ t. IsAnswer program t box at (Ok next)) (sym e) ((refutes, tt), λ h. counts h)
+pub leaf_sound : (program : Program) (tree : Tree) (weights : List Weight) (box : List (Option Bool)) (at next : ℕ) → tree ≡ Leaf weights → RefutesBox program box weights → (at + 1 < 2 ^ 64 → next ≡ at + 1) → IsTreeCheck program tree box at (Ok next)
+leaf_sound program tree weights box at next e refutes counts = subst (λ t. IsTreeCheck program t box at (Ok next)) (sym e) ((refutes, tt), λ h. counts h)
 
-pub leaf_fails : (program : Program) (tree : Tree) (weights : List Weight) (box : List (Option Bool)) (at : ℕ) → tree ≡ Leaf weights → (RefutesBox program box weights → ⊥) → IsAnswer program tree box at (Err at)
-leaf_fails program tree weights box at e fails = subst (λ t. IsAnswer program t box at (Err at)) (sym e)
+pub leaf_fails : (program : Program) (tree : Tree) (weights : List Weight) (box : List (Option Bool)) (at : ℕ) → tree ≡ Leaf weights → (RefutesBox program box weights → ⊥) → IsTreeCheck program tree box at (Err at)
+leaf_fails program tree weights box at e fails = subst (λ t. IsTreeCheck program t box at (Err at)) (sym e)
     (0, record { node = (box, Leaf_node weights); stands = refl; fails = fails; before = tt }, λ h. omega arith)
 
-pub end_fails : (program : Program) (tree : Tree) (box : List (Option Bool)) (at : ℕ) → tree ≡ Unclosed → IsAnswer program tree box at (Err at)
-end_fails program tree box at e = subst (λ t. IsAnswer program t box at (Err at)) (sym e)
+pub end_fails : (program : Program) (tree : Tree) (box : List (Option Bool)) (at : ℕ) → tree ≡ Unclosed → IsTreeCheck program tree box at (Err at)
+end_fails program tree box at e = subst (λ t. IsTreeCheck program t box at (Err at)) (sym e)
     (0, record { node = (box, Open_end); stands = refl; fails = λ h. h; before = tt }, λ h. omega arith)
 
-pub split_fails : (program : Program) (tree low high : Tree) (variable : ℕ) (box : List (Option Bool)) (at : ℕ) → tree ≡ Split variable low high → (IsOpen program box variable → ⊥) → IsAnswer program tree box at (Err at)
-split_fails program tree low high variable box at e fails = subst (λ t. IsAnswer program t box at (Err at)) (sym e)
+pub split_fails : (program : Program) (tree low high : Tree) (variable : ℕ) (box : List (Option Bool)) (at : ℕ) → tree ≡ Split variable low high → (IsOpen program box variable → ⊥) → IsTreeCheck program tree box at (Err at)
+split_fails program tree low high variable box at e fails = subst (λ t. IsTreeCheck program t box at (Err at)) (sym e)
     (0, fails_at program (Split variable low high) box _ 0 (nodes_of-Split variable low high box) (record { node = (box, Split_node variable); stands = refl; fails = fails; before = tt }), λ h. omega arith)
 
 pub low_fails : (program : Program) (tree low high : Tree) (variable : ℕ) (box : List (Option Bool)) (at first node : ℕ) → tree ≡ Split variable low high → IsOpen program box variable → (at + 1 < 2 ^ 64 → first ≡ at + 1) →
-    IsAnswer program low (fix box variable false) first (Err node) → IsAnswer program tree box at (Err node)
-low_fails program tree low high variable box at first node e o counts answer = subst (λ t. IsAnswer program t box at (Err node)) (sym e) (
+    IsTreeCheck program low (fix box variable false) first (Err node) → IsTreeCheck program tree box at (Err node)
+low_fails program tree low high variable box at first node e o counts answer = subst (λ t. IsTreeCheck program t box at (Err node)) (sym e) (
   suc answer.0,
   fails_at program (Split variable low high) box _ (suc answer.0) (nodes_of-Split variable low high box)
       (fails_after program (box, Split_node variable) _ answer.0 o (fails_in_front program (nodes_of low (fix box variable false)) (nodes_of high (fix box variable true)) answer.0 (fails_in program low (fix box variable false) answer.0 answer.1))),
@@ -82,15 +82,15 @@ low_fails program tree low high variable box at first node e o counts answer = s
 )
 
 pub high_answers : (program : Program) (tree low high : Tree) (variable : ℕ) (box : List (Option Bool)) (at first next : ℕ) (answer : Result ℕ ℕ) → tree ≡ Split variable low high → IsOpen program box variable → (at + 1 < 2 ^ 64 → first ≡ at + 1) →
-    IsAnswer program low (fix box variable false) first (Ok next) → IsAnswer program high (fix box variable true) next answer → IsAnswer program tree box at answer
-high_answers program tree low high variable box at first next (Ok last) e o counts l h = subst (λ t. IsAnswer program t box at (Ok last)) (sym e) (
+    IsTreeCheck program low (fix box variable false) first (Ok next) → IsTreeCheck program high (fix box variable true) next answer → IsTreeCheck program tree box at answer
+high_answers program tree low high variable box at first next (Ok last) e o counts l h = subst (λ t. IsTreeCheck program t box at (Ok last)) (sym e) (
   split_refutes program variable low high box o l.0 h.0,
   λ small.
       let size : length (nodes_of (Split variable low high) box) ≡ 1 + length (nodes_of low (fix box variable false)) + length (nodes_of high (fix box variable true)) =
       ap length (nodes_of-Split variable low high box) ∙ (let n = length-append (nodes_of low (fix box variable false)) (nodes_of high (fix box variable true)) in omega arith) in
       let a = counts (omega arith) in let b = l.1 (omega arith) in let c = h.1 (omega arith) in omega arith,
 )
-high_answers program tree low high variable box at first next (Err node) e o counts l h = subst (λ t. IsAnswer program t box at (Err node)) (sym e) (
+high_answers program tree low high variable box at first next (Err node) e o counts l h = subst (λ t. IsTreeCheck program t box at (Err node)) (sym e) (
   suc (length (nodes_of low (fix box variable false)) + h.0),
   fails_at program (Split variable low high) box _ (suc (length (nodes_of low (fix box variable false)) + h.0)) (nodes_of-Split variable low high box)
       (fails_after program (box, Split_node variable) _ (length (nodes_of low (fix box variable false)) + h.0) o
@@ -103,7 +103,7 @@ high_answers program tree low high variable box at first next (Err node) e o cou
 pub answer_refutes : (program : Program) (tree : Tree) (box : List (Option Bool)) (k : ℕ) → FailsAt program tree box k → ¬ Refutes program tree box
 answer_refutes program tree box k f refutes = all_sound program (nodes_of tree box) k (fails_in program tree box k f) refutes
 
-pub first_fault : (program : Program) (tree : Tree) (box : List (Option Bool)) (node : ℕ) → IsAnswer program tree box 0 (Err node) → length (nodes_of tree box) ≤ 2 ^ 64 → FailsAt program tree box node
+pub first_fault : (program : Program) (tree : Tree) (box : List (Option Bool)) (node : ℕ) → IsTreeCheck program tree box 0 (Err node) → length (nodes_of tree box) ≤ 2 ^ 64 → FailsAt program tree box node
 first_fault program tree box node answer few =
     let within = slice_get_within (nodes_of tree box) answer.0 answer.1.node answer.1.stands in
     let named : node ≡ answer.0 = let e = answer.2 (omega arith) in omega arith in

@@ -2,7 +2,8 @@
 use Rattle.std.proofs.Common.{ℕ, ◌≤◌, ◌<◌, ◌^◌, nat_abs, List, length, get_or, arith}
 use Rattle.merlin_model.specs.Programs.{Program}
 use Rattle.merlin_model.specs.declared.certificate.Weight.{Weight}
-use Rattle.integer_program.proofs.Bounds.{IsWithin, within, all_at, ascending_few}
+use Rattle.integer_program.specs.Bounds.{IsBounded}
+use Rattle.integer_program.proofs.Bounds.{within, all_at, ascending_few}
 use Rattle.certificate.specs.Weights.{AreWeights}
 use Rattle.certificate.proofs.AtCutoffs.{IsAt}
 use Rattle.certificate.proofs.Totals.{no_weight}
@@ -10,7 +11,7 @@ use Rattle.certificate.proofs.Totals.{no_weight}
 pub record IsWeightAt (program plain : Program) (weights : List Weight) (k : ℕ) : Type 0 where
   pub few : length weights ≤ 16384
   pub exists : (get_or weights k no_weight).row < length plain.rows
-  pub small : IsWithin (2 ^ 60) (get_or weights k no_weight).weight
+  pub small : IsBounded (2 ^ 60) (get_or weights k no_weight).weight
 
 pub few_weights : (program plain : Program) (weights : List Weight) → IsAt program plain → AreWeights program weights → length weights ≤ 16384
 few_weights program plain weights at are =

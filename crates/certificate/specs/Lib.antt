@@ -1,4 +1,4 @@
 pub mod Adding
 pub mod Weights
-pub mod Answers
+pub mod Checks
 pub mod Narrowed

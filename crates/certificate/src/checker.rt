@@ -1,14 +1,13 @@
-//! The checker of trees.
+//! The checker of trees: it walks over the nodes in preorder, with one box that it changes in place and sets back.
 
-ghost use Rattle.std.specs.Prelude.{ℕ, ◌≡◌, ◌≤◌, ◌<◌, ◌+◌, ◌^◌, ◌↔◌, Bool, List, pos, length, IsTrue, None, replicate, IfOk, IfErr, OnOk, OnErr};
+ghost use Rattle.std.specs.Prelude.{ℕ, ◌≡◌, ◌≤◌, ◌<◌, ◌+◌, ◌^◌, Bool, List, length, None, replicate, IfOk, IfErr, OnOk, OnErr};
 ghost use Rattle.std.specs.Option.{option_copied};
 ghost use Rattle.merlin_model.specs.Programs.{Takes, variables, IsSolution};
-ghost use Rattle.merlin_model.specs.Trees.{IsOpen, Refutes, FailsAt, nodes_of, root_box};
-ghost use Rattle.certificate.specs.Answers.{IsAnswer};
+ghost use Rattle.merlin_model.specs.Trees.{Refutes, FailsAt, nodes_of, root_box};
+ghost use Rattle.certificate.specs.Checks.{IsTreeCheck};
 
-use crate::leaf::leaf_refutes;
-use crate::sums::{Sums, no_sums};
-use integer_program::{Fixed, Program};
+use crate::leaf::{Workspace, leaf_refutes};
+use integer_program::{Fixed, Program, is_open};
 use merlin_model::OutOfMemory;
 use merlin_model::certificate::Tree;
 use std::alloc::Global;
@@ -19,17 +18,17 @@ pub struct TreeFault {
     pub node: usize,
 }
 
-/// A program with a box and sums, which a check changes in place and sets back.
+/// A program with a box and a workspace, which a check changes in place and sets back.
 #[derive(Drop)]
 pub struct Checker<'p, P: Program> {
     program: &'p P,
     fixed: Fixed,
-    sums: Sums,
+    workspace: Workspace,
     ghost free: { fixed ≡ replicate (variables (P.instance program.now None)) None },
-    ghost clear: { sums ≡ record { by_variable = replicate (variables (P.instance program.now None)) (pos 0); least = pos 0 } },
+    ghost room: { workspace ≡ variables (P.instance program.now None) },
 }
 
-/// A checker of trees for a program.
+/// A checker of trees for a program. It takes all its memory here.
 pub fn new<'p, P: Program>(alloc: Global, program: &'p P) -> Result<Checker<'p, P>, OutOfMemory>
     ensures { IfOk result (λ checker. checker.program.now ≡ program.now) }
 {
@@ -37,7 +36,7 @@ pub fn new<'p, P: Program>(alloc: Global, program: &'p P) -> Result<Checker<'p, 
     Ok(Checker {
         program,
         fixed: Fixed::free(alloc, variables)?,
-        sums: no_sums(alloc, variables)?,
+        workspace: Workspace::new(alloc, variables)?,
     })
 }
 
@@ -46,18 +45,26 @@ impl<P: Program> Checker<'_, P> {
     /// node that fails, where the tree's nodes can be counted. It takes no memory.
     pub fn refutes(&mut self, tree: &Tree, cutoff: Option<&P::Cutoff>) -> Result<(), TreeFault>
         requires { Takes (P.takes self.old.program.now) (option_copied cutoff) }
-        ensures as_new { (self.new.program ≡ self.old.program) × (self.new.fixed ≡ self.old.fixed) × (self.new.sums ≡ self.old.sums) }
-        ensures ok { OnOk result (Refutes (P.instance self.old.program.now (option_copied cutoff.entry)) tree.now (root_box (P.instance self.old.program.now (option_copied cutoff.entry)))) }
-        ensures none { OnOk result ((point : List Bool) → ¬ IsSolution (P.instance self.old.program.now (option_copied cutoff.entry)) point) }
-        ensures fault { OnErr result (¬ Refutes (P.instance self.old.program.now (option_copied cutoff.entry)) tree.now (root_box (P.instance self.old.program.now (option_copied cutoff.entry)))) }
-        ensures first { IfErr result (λ fault. length (nodes_of tree.now (root_box (P.instance self.old.program.now (option_copied cutoff.entry)))) ≤ 2 ^ 64 → FailsAt (P.instance self.old.program.now (option_copied cutoff.entry)) tree.now (root_box (P.instance self.old.program.now (option_copied cutoff.entry))) fault.node) }
+        ensures program { self.new.program ≡ self.old.program }
+        ensures fixed { self.new.fixed ≡ self.old.fixed }
+        ensures workspace { self.new.workspace ≡ self.old.workspace }
+        ensures ok { let stated = P.instance self.old.program.now (option_copied cutoff.entry) in
+            OnOk result (Refutes stated tree.now (root_box stated)) }
+        ensures none { let stated = P.instance self.old.program.now (option_copied cutoff.entry) in
+            OnOk result ((point : List Bool) → ¬ IsSolution stated point) }
+        ensures fault { let stated = P.instance self.old.program.now (option_copied cutoff.entry) in
+            OnErr result (¬ Refutes stated tree.now (root_box stated)) }
+        ensures first { let stated = P.instance self.old.program.now (option_copied cutoff.entry) in
+            let root = root_box stated in
+            IfErr result (λ fault. length (nodes_of tree.now root) ≤ 2 ^ 64 →
+            FailsAt stated tree.now root fault.node) }
     {
         merlin_model::laws::refuted_box_has_no_solution();
         match refute(
             self.program,
             cutoff,
             &mut self.fixed,
-            &mut self.sums,
+            &mut self.workspace,
             tree,
             0,
         ) {
@@ -67,46 +74,27 @@ impl<P: Program> Checker<'_, P> {
     }
 }
 
-/// Whether a variable is open in the box.
-fn is_open<P: Program>(
-    program: &P,
-    cutoff: Option<&P::Cutoff>,
-    fixed: &Fixed,
-    variable: usize,
-) -> bool
-    requires takes { Takes (P.takes program.now) (option_copied cutoff) }
-    requires size { length fixed.now ≡ variables (P.instance program.now None) }
-    ensures { IsTrue result ↔ IsOpen (P.instance program.now (option_copied cutoff.entry)) fixed.now variable }
-{
-    if program.variables() <= variable {
-        return false;
-    }
-    match fixed.get(variable) {
-        None => program.upper(variable, cutoff),
-        Some(_) => false,
-    }
-}
-
-/// The number after the last node of a tree that refutes the box, or the first node that fails, where the first of the tree has
-/// the number `at`. Counting stops at the greatest number.
+// The number after the last node of a tree that refutes the box, or the first node that fails, where the first of the tree has
+// the number `at`. Counting stops at the greatest number.
 fn refute<P: Program>(
     program: &P,
     cutoff: Option<&P::Cutoff>,
     fixed: &mut Fixed,
-    sums: &mut Sums,
+    workspace: &mut Workspace,
     tree: &Tree,
     at: usize,
 ) -> Result<usize, usize>
     requires takes { Takes (P.takes program.now) (option_copied cutoff) }
     requires size { length fixed.old ≡ variables (P.instance program.now None) }
-    requires clear { sums.old ≡ record { by_variable = replicate (variables (P.instance program.now None)) (pos 0); least = pos 0 } }
+    requires room { workspace.old ≡ variables (P.instance program.now None) }
     ensures fixed { fixed.new ≡ fixed.old }
-    ensures sums { sums.new ≡ sums.old }
-    ensures answer { IsAnswer (P.instance program.now (option_copied cutoff.entry)) tree.now fixed.old at result }
+    ensures workspace { workspace.new ≡ workspace.old }
+    ensures answer { let stated = P.instance program.now (option_copied cutoff.entry) in
+        IsTreeCheck stated tree.now fixed.old at result }
 {
     match tree {
         Tree::Leaf(weights) => {
-            if leaf_refutes(program, cutoff, fixed, sums, weights.as_slice()) {
+            if leaf_refutes(program, cutoff, fixed, workspace, weights.as_slice()) {
                 Ok(at.saturating_add(1))
             } else {
                 Err(at)
@@ -125,14 +113,14 @@ fn refute<P: Program>(
                 program,
                 cutoff,
                 fixed,
-                sums,
+                workspace,
                 zero.get(),
                 at.saturating_add(1),
             );
             fixed.set(*variable, None);
             let next = low?;
             fixed.set(*variable, Some(true));
-            let high = refute(program, cutoff, fixed, sums, one.get(), next);
+            let high = refute(program, cutoff, fixed, workspace, one.get(), next);
             fixed.set(*variable, None);
             high
         }

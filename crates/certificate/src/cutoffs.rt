@@ -13,10 +13,14 @@ use integer_program::Program;
 /// not be 1 there are replaced by their part `zero`. It does nothing.
 pub fn smaller_cutoffs<P: Program>(_program: &P)
     ensures leaf { (low high : Option P.Cutoff) (box : List (Option Bool)) (weights : List Weight) →
-        Takes (P.takes _program.now) low → Takes (P.takes _program.now) high → is_lower (P.is_below _program.now) low high ≡ true →
-        RefutesBox (P.instance _program.now high) box weights → RefutesBox (P.instance _program.now low) box weights }
+        Takes (P.takes _program.now) low → Takes (P.takes _program.now) high →
+        is_lower (P.is_below _program.now) low high ≡ true →
+        RefutesBox (P.instance _program.now high) box weights →
+        RefutesBox (P.instance _program.now low) box weights }
     ensures tree { (low high : Option P.Cutoff) (tree : Tree) →
-        Takes (P.takes _program.now) low → Takes (P.takes _program.now) high → is_lower (P.is_below _program.now) low high ≡ true →
+        Takes (P.takes _program.now) low → Takes (P.takes _program.now) high →
+        is_lower (P.is_below _program.now) low high ≡ true →
         Refutes (P.instance _program.now high) tree (root_box (P.instance _program.now high)) →
-        Refutes (P.instance _program.now low) (narrowed (P.instance _program.now low) tree) (root_box (P.instance _program.now low)) }
+        let narrow = P.instance _program.now low in
+        Refutes narrow (narrowed narrow tree) (root_box narrow) }
 {}

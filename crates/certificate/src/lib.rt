@@ -8,4 +8,5 @@ mod sums;
 
 pub use checker::{Checker, TreeFault, new};
 pub use cutoffs::smaller_cutoffs;
+pub use leaf::{Workspace, leaf_refutes};
 pub use merlin_model::certificate::{Tree, Weight};

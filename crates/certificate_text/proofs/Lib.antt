@@ -1,9 +1,3 @@
-pub mod Cutting
-pub mod Decimals
-pub mod PairTexts
-pub mod WrongLines
-pub mod NodeLines
-pub mod NodeTexts
 pub mod NodeReads
 pub mod WholeTrees
 pub mod RowLines

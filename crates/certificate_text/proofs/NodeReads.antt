@@ -4,12 +4,12 @@ use Rattle.merlin_model.specs.declared.certificate.Tree.{Tree, Leaf, Split, Spli
 use Rattle.merlin_model.specs.Trees.{Node, Leaf_node, Split_node, Open_end}
 use Rattle.certificate_text.specs.declared.fault.LineFault.{LineFault}
 use Rattle.certificate_text.specs.declared.fault.LineFault.TheVariants.{Wrong, Memory}
-use Rattle.certificate_text.specs.Faults.{IsWholeLines}
-use Rattle.certificate_text.specs.TreeTexts.{node_line, IsNodeLine, nodes_in, node_lines, IsWithin}
-use Rattle.certificate_text.specs.Outcomes.{IsFault, GoesWrong}
-use Rattle.certificate_text.proofs.NodeLines.{node_front, front_free, line_behind, line_once, line_is}
-use Rattle.certificate_text.proofs.NodeTexts.{root, later, lines_are, AreLines, root_line, split_lines, halves, some_node, split_count, node_lines-Split, tree_once, lines_whole, split_is}
-use Rattle.certificate_text.proofs.WrongLines.{line_wrong, lift_wrong, whole_lines}
+use Rattle.merlin_base.specs.Faults.{IsWholeLines, GoesWrong}
+use Rattle.merlin_base.specs.NodeTexts.{node_line, IsNodeLine, nodes_in, node_lines, IsWithin}
+use Rattle.certificate_text.specs.Outcomes.{IsLineFault}
+use Rattle.merlin_base.proofs.NodeLines.{node_front, front_free, line_behind, line_once, line_is}
+use Rattle.merlin_base.proofs.NodeTexts.{root, later, lines_are, AreLines, root_line, split_lines, halves, some_node, split_count, node_lines-Split, tree_once, lines_whole, split_is}
+use Rattle.merlin_base.proofs.WrongLines.{line_wrong, lift_wrong, whole_lines}
 
 -- the error of a `?`
 pub err_to : {X : Type 0} (P : LineFault → Type 0) (r : Result X LineFault) (f : LineFault) → IsErrAnd r (λ e. e ≡ f) → P f → IfErr r P
@@ -22,7 +22,7 @@ first_of t = lines_are t ∙ line_behind (root t) (later t)
 pub one_end : (spare : ℕ) → IsWithin (spare + 1) Unclosed
 one_end spare = record { few = omega arith; each = (tt, tt) }
 
-pub line_fault : (spare : ℕ) (text : List ℕ) (f : LineFault) → IsFault (λ left. (left ≡ length text) × ((node : Node) (rest : List ℕ) → IsNodeLine node → text ≡ node_line node ++ rest → ⊥)) f → IsFault (GoesWrong node_lines (IsWithin (spare + 1)) text) f
+pub line_fault : (spare : ℕ) (text : List ℕ) (f : LineFault) → IsLineFault (λ left. (left ≡ length text) × ((node : Node) (rest : List ℕ) → IsNodeLine node → text ≡ node_line node ++ rest → ⊥)) f → IsLineFault (GoesWrong node_lines (IsWithin (spare + 1)) text) f
 line_fault spare text (Wrong left) h = subst (GoesWrong node_lines (IsWithin (spare + 1)) text) (sym h.0)
     (line_wrong node_lines (IsWithin (spare + 1)) (λ t. node_front (root t)) later text Unclosed (one_end spare) first_of (λ t is. front_free (root t) (root_line t is.each))
     (λ t rest is e. h.1 (root t) rest (root_line t is.each) (e ∙ sym (line_behind (root t) rest))))
@@ -63,8 +63,8 @@ split_down (Split' w s (more_of-Tree low end_of-Tree) r (more_of-Tree high end_o
 line_whole : (n : Node) → IsWholeLines (node_line n)
 line_whole n = inr (node_front n, line_is n)
 
-pub low_wrong : (spare v : ℕ) (text rest : List ℕ) (f : LineFault) → 2 ≤ spare → v < 10 ^ 19 → text ≡ node_line (Split_node v) ++ rest → IsFault (GoesWrong node_lines (IsWithin (spare - 2 + 1)) rest) f →
-    IsFault (GoesWrong node_lines (IsWithin (spare + 1)) text) f
+pub low_wrong : (spare v : ℕ) (text rest : List ℕ) (f : LineFault) → 2 ≤ spare → v < 10 ^ 19 → text ≡ node_line (Split_node v) ++ rest → IsLineFault (GoesWrong node_lines (IsWithin (spare - 2 + 1)) rest) f →
+    IsLineFault (GoesWrong node_lines (IsWithin (spare + 1)) text) f
 low_wrong spare v text rest Memory room is e h = tt
 low_wrong spare v text rest (Wrong left) room is e h =
     lift_wrong node_lines (IsWithin (spare + 1)) node_lines (IsWithin (spare - 2 + 1)) (node_line (Split_node v)) rest text left (line_whole (Split_node v)) e up down h
@@ -84,7 +84,7 @@ low_wrong spare v text rest (Wrong left) room is e h =
         (s.low, record { few = (let n = split_count v s.low s.high in let m = k.few in let c = ap (λ z. length (nodes_in z)) s.is in let b = some_node s.high in omega arith); each = hs.is_low }, node_lines s.high ++ x, s.rest)
 
 pub high_wrong : (spare left_over v : ℕ) (zero' : Tree) (text rest behind : List ℕ) (f : LineFault) → 2 ≤ spare → v < 10 ^ 19 → text ≡ node_line (Split_node v) ++ rest → rest ≡ node_lines zero' ++ behind → left_over + length (nodes_in zero') ≡ spare - 2 + 1 → AreLines zero' →
-    IsFault (GoesWrong node_lines (IsWithin (left_over + 1)) behind) f → IsFault (GoesWrong node_lines (IsWithin (spare + 1)) text) f
+    IsLineFault (GoesWrong node_lines (IsWithin (left_over + 1)) behind) f → IsLineFault (GoesWrong node_lines (IsWithin (spare + 1)) text) f
 high_wrong spare left_over v zero' text rest behind Memory room is e g count lines h = tt
 high_wrong spare left_over v zero' text rest behind (Wrong left) room is e g count lines h =
     lift_wrong node_lines (IsWithin (spare + 1)) node_lines (IsWithin (left_over + 1)) (node_line (Split_node v) ++ node_lines zero') behind text left

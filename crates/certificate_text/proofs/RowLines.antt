@@ -6,13 +6,13 @@ use Rattle.std.specs.Prelude.{codes}
 use Rattle.std.specs.Fmt.{decimal, signed_decimal}
 use Rattle.merlin_base.specs.Lexemes.{Lacks}
 use Rattle.merlin_model.specs.Programs.{Row}
-use Rattle.certificate_text.specs.Pairs.{pairs_text, IsEmptyOrBegins}
-use Rattle.certificate_text.specs.Outcomes.{GoesWrong}
+use Rattle.merlin_base.specs.Pairs.{pairs_text, IsEmptyOrBegins}
+use Rattle.merlin_base.specs.Faults.{GoesWrong}
 use Rattle.certificate_text.specs.ProgramTexts.{kind_word, row_line, IsRowLine, head_text}
-use Rattle.certificate_text.proofs.Cutting.{Free, free, free_append, free_middle, cut_once, cut_before_once}
-use Rattle.certificate_text.proofs.Decimals.{decimal_free, decimal_same, signed_free, signed_same}
-use Rattle.certificate_text.proofs.PairTexts.{IsSmallPair, small_pairs, pairs_free, pairs_once, pairs_begin}
-use Rattle.certificate_text.proofs.WrongLines.{line_wrong, lift_wrong}
+use Rattle.merlin_base.proofs.Cutting.{Free, free, free_append, free_middle, cut_once, cut_before_once}
+use Rattle.merlin_base.proofs.Decimals.{decimal_free, decimal_same, signed_free, signed_same}
+use Rattle.merlin_base.proofs.PairTexts.{IsSmallPair, small_pairs, pairs_free, pairs_once, pairs_begin}
+use Rattle.merlin_base.proofs.WrongLines.{line_wrong, lift_wrong}
 
 -- The two lines before the rows.
 

@@ -7,13 +7,13 @@ use Rattle.std.specs.Fmt.{decimal, signed_decimal}
 use Rattle.merlin_model.specs.Programs.{Program, Row, variables, IsRow}
 use Rattle.certificate_text.specs.declared.fault.LineFault.{LineFault}
 use Rattle.certificate_text.specs.declared.fault.LineFault.TheVariants.{Wrong, Memory}
-use Rattle.certificate_text.specs.Faults.{IsWholeLines, IsFirstWrongLine}
+use Rattle.merlin_base.specs.Faults.{IsWholeLines, IsFirstWrongLine, GoesWrong}
 use Rattle.certificate_text.specs.ProgramTexts.{head_text, row_line, IsRowLine, program_text, IsProgramText, kind_word}
-use Rattle.certificate_text.specs.Pairs.{pairs_text}
-use Rattle.certificate_text.specs.Outcomes.{IsFault, GoesWrong}
-use Rattle.certificate_text.proofs.Cutting.{Free}
+use Rattle.merlin_base.specs.Pairs.{pairs_text}
+use Rattle.certificate_text.specs.Outcomes.{IsLineFault}
+use Rattle.merlin_base.proofs.Cutting.{Free}
 use Rattle.certificate_text.proofs.RowLines.{IsCount, row_front, row_behind, row_free, row_once, head_once, count_line, first_line}
-use Rattle.certificate_text.proofs.WrongLines.{line_wrong, lift_wrong, whole_wrong, whole_lines, past_end}
+use Rattle.merlin_base.proofs.WrongLines.{line_wrong, lift_wrong, whole_wrong, whole_lines, past_end}
 
 abbrev pub finish : List ℕ
 finish = codes "end" ++ 10 ∷ []
@@ -48,7 +48,7 @@ rows_whole : (rows : List Row) → IsWholeLines (rows_text rows)
 rows_whole [] = inl refl
 rows_whole (row ∷ rows) = whole_lines (row_line row) (rows_text rows) (row_whole row) (rows_whole rows)
 
-pub bad_head : (text : List ℕ) (f : LineFault) → IsFault (GoesWrong head_text IsCount text) f → IsFault (IsWrongWhole text) f
+pub bad_head : (text : List ℕ) (f : LineFault) → IsLineFault (GoesWrong head_text IsCount text) f → IsLineFault (IsWrongWhole text) f
 bad_head text Memory h = tt
 bad_head text (Wrong left) h = whole_wrong program_text IsProgramText text left
     (lift_wrong program_text IsProgramText head_text IsCount [] text text left (inl refl) refl

@@ -7,14 +7,15 @@ use Rattle.merlin_model.specs.declared.certificate.Tree.{Tree, Split, Unclosed}
 use Rattle.merlin_model.specs.Trees.{nodes_of, Split_node}
 use Rattle.certificate_text.specs.declared.fault.LineFault.{LineFault}
 use Rattle.certificate_text.specs.declared.fault.LineFault.TheVariants.{Wrong, Memory}
-use Rattle.certificate_text.specs.Faults.{IsFirstWrongLine}
-use Rattle.certificate_text.specs.Pairs.{pair_text, pairs_text}
-use Rattle.certificate_text.specs.TreeTexts.{pair_of, node_line, nodes_in, node_lines, tree_text, IsWithin, IsTreeText}
-use Rattle.certificate_text.specs.Outcomes.{IsFault, GoesWrong}
-use Rattle.certificate_text.proofs.Cutting.{Free}
-use Rattle.certificate_text.proofs.NodeTexts.{AreLines, node_lines-Split, tree_once, lines_whole, counted}
+use Rattle.merlin_base.specs.Faults.{IsFirstWrongLine, GoesWrong}
+use Rattle.merlin_base.specs.Pairs.{pair_text, pairs_text}
+use Rattle.merlin_base.specs.NodeTexts.{pair_of, node_line, nodes_in, node_lines, IsWithin}
+use Rattle.certificate_text.specs.TreeTexts.{tree_text, IsTreeText}
+use Rattle.certificate_text.specs.Outcomes.{IsLineFault}
+use Rattle.merlin_base.proofs.Cutting.{Free}
+use Rattle.merlin_base.proofs.NodeTexts.{AreLines, node_lines-Split, tree_once, lines_whole, counted}
 use Rattle.certificate_text.proofs.NodeReads.{one_end}
-use Rattle.certificate_text.proofs.WrongLines.{line_wrong, lift_wrong, whole_wrong, whole_lines, past_end}
+use Rattle.merlin_base.proofs.WrongLines.{line_wrong, lift_wrong, whole_wrong, whole_lines, past_end}
 
 abbrev pub start : List ℕ
 start = codes "tree" ++ 10 ∷ []
@@ -35,7 +36,7 @@ pub no_start : (text : List ℕ) → ((rest : List ℕ) → text ≡ start ++ re
 no_start text none = whole_wrong tree_text IsTreeText text (length text)
     (line_wrong tree_text IsTreeText (λ t. codes "tree") (λ t. node_lines t ++ finish) text Unclosed (one_end 4095) (λ t. refl) (λ t is. start_free) (λ t rest is e. none rest e))
 
-pub bad_nodes : (text nodes : List ℕ) (f : LineFault) → text ≡ start ++ nodes → IsFault (GoesWrong node_lines (IsWithin 4096) nodes) f → IsFault (IsWrongWhole text) f
+pub bad_nodes : (text nodes : List ℕ) (f : LineFault) → text ≡ start ++ nodes → IsLineFault (GoesWrong node_lines (IsWithin 4096) nodes) f → IsLineFault (IsWrongWhole text) f
 bad_nodes text nodes Memory e h = tt
 bad_nodes text nodes (Wrong left) e h = whole_wrong tree_text IsTreeText text left
     (lift_wrong tree_text IsTreeText node_lines (IsWithin 4096) start nodes text left (inr (codes "tree", refl)) e (λ w k. (w, k, finish, refl)) down h)

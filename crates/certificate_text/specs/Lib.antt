@@ -1,5 +1,3 @@
-pub mod Pairs
-pub mod Faults
 pub mod TreeTexts
 pub mod ProgramTexts
 pub mod Outcomes

@@ -2,7 +2,7 @@
 use Rattle.std.specs.Prelude.{ℕ, List}
 use Rattle.certificate_text.specs.declared.program.ProgramTextFault.{ProgramTextFault}
 use Rattle.certificate_text.specs.declared.program.ProgramTextFault.TheVariants.{BadProgram, OutOfMemory}
-use Rattle.certificate_text.specs.Faults.{IsFirstWrongLine}
+use Rattle.merlin_base.specs.Faults.{IsFirstWrongLine}
 use Rattle.certificate_text.specs.ProgramTexts.{program_text, IsProgramText}
 
 -- the first wrong line; nothing is said of want of memory

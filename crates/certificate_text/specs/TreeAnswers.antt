@@ -2,7 +2,7 @@
 use Rattle.std.specs.Prelude.{ℕ, List}
 use Rattle.certificate_text.specs.declared.tree.TreeTextFault.{TreeTextFault}
 use Rattle.certificate_text.specs.declared.tree.TreeTextFault.TheVariants.{BadTree, OutOfMemory}
-use Rattle.certificate_text.specs.Faults.{IsFirstWrongLine}
+use Rattle.merlin_base.specs.Faults.{IsFirstWrongLine}
 use Rattle.certificate_text.specs.TreeTexts.{tree_text, IsTreeText}
 
 -- the first wrong line; nothing is said of want of memory

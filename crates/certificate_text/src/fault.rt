@@ -1,7 +1,7 @@
 //! Why a text is not read on.
 
 ghost use Rattle.std.specs.Prelude.{◌≡◌};
-ghost use Rattle.certificate_text.specs.declared.fault.LineFault.TheVariants.{Memory};
+ghost use Rattle.certificate_text.specs.declared.fault.LineFault.TheVariants.{Memory, Wrong};
 
 use merlin_model::OutOfMemory;
 use std::alloc::AllocError;
@@ -11,6 +11,15 @@ use std::alloc::AllocError;
 pub enum LineFault {
     Wrong(usize),
     Memory,
+}
+
+impl From<usize> for LineFault {
+    ghost from_gives = { λ left line. line ≡ Wrong left };
+
+    // what is left of the text from the wrong line on
+    fn from(left: usize) -> Self {
+        LineFault::Wrong(left)
+    }
 }
 
 impl From<OutOfMemory> for LineFault {

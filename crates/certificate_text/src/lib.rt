@@ -1,10 +1,8 @@
 //! Refuting trees and plain programs as texts.
 #![tactic(auto)]
 
-mod cuts;
 mod fault;
 mod line;
-mod numbers;
 mod pairs;
 mod program;
 mod tree;

@@ -4,24 +4,24 @@ ghost use Rattle.std.specs.Prelude.{ℕ, ◌≡◌, ◌<◌, ◌^◌, ◌++◌, 
 ghost use Rattle.std.specs.Fmt.{decimal};
 ghost use Rattle.merlin_model.specs.Trees.{Node};
 ghost use Rattle.merlin_model.specs.declared.certificate.Weight.{Weight};
-ghost use Rattle.certificate_text.specs.Pairs.{pairs_text, ArePairs};
-ghost use Rattle.certificate_text.specs.TreeTexts.{pair_of, node_line, IsNodeLine};
-ghost use Rattle.certificate_text.specs.Outcomes.{IsFault, node_of};
+ghost use Rattle.merlin_base.specs.Pairs.{pairs_text, ArePairs};
+ghost use Rattle.merlin_base.specs.NodeTexts.{pair_of, node_line, IsNodeLine};
+ghost use Rattle.certificate_text.specs.Outcomes.{IsLineFault, node_of};
 
-use crate::cuts::{after, cut};
 use crate::fault::LineFault;
-use crate::numbers::read_number;
 use crate::pairs::read_pairs;
 use certificate::Weight;
+use merlin_base::{after, read_number, split_at_byte};
 use merlin_model::OutOfMemory;
+use merlin_model::limits::MAX_WEIGHT;
 use sqlite_items::Items;
 use std::alloc::Global;
 
-/// Numbers of variables and rows are below this.
+// Numbers of variables and rows are below this.
 const NUMBERS: usize = 10_000_000_000_000_000_000;
 
-/// No weight is greater, or less than its opposite.
-const GREATEST_WEIGHT: usize = 1 << 60;
+// the greatest weight, as the reader of numbers takes it
+const GREATEST_WEIGHT: usize = MAX_WEIGHT as usize;
 
 /// The line of a node.
 #[derive(Drop)]
@@ -34,9 +34,10 @@ pub enum Line {
 /// The number that fills the rest of a line, and what stands behind the line.
 pub fn number_line(text: &[u8]) -> Option<(usize, &[u8])>
     ensures some { IfSome result (λ r. (text.now ≡ decimal r.0 ++ 10 ∷ r.1.now) × (r.0 < 10 ^ 19)) }
-    ensures none { IfNone result ((n : ℕ) (rest : List ℕ) → n < 10 ^ 19 → text.now ≡ decimal n ++ 10 ∷ rest → ⊥) }
+    ensures none { IfNone result ((n : ℕ) (rest : List ℕ) → n < 10 ^ 19 →
+        text.now ≡ decimal n ++ 10 ∷ rest → ⊥) }
 {
-    let Some((digits, rest)) = cut(text, b'\n') else {
+    let Some((digits, rest)) = split_at_byte(text, b'\n') else {
         return None;
     };
     match read_number(digits) {
@@ -45,7 +46,7 @@ pub fn number_line(text: &[u8]) -> Option<(usize, &[u8])>
     }
 }
 
-/// Pairs as weights.
+// Pairs as weights.
 fn weights_of(alloc: Global, pairs: &[(usize, i64)]) -> Result<Items<Weight>, OutOfMemory>
     ensures { IfOk result (λ weights. map pair_of weights ≡ pairs.now) }
 {
@@ -59,12 +60,16 @@ fn weights_of(alloc: Global, pairs: &[(usize, i64)]) -> Result<Items<Weight>, Ou
     Ok(weights)
 }
 
-/// The weights that fill the rest of a line, and what stands behind the line.
+// The weights that fill the rest of a line, and what stands behind the line.
 fn weights_line(alloc: Global, text: &[u8]) -> Result<Option<(Items<Weight>, &[u8])>, OutOfMemory>
-    ensures some { IfOk result (λ o. IfSome o (λ r. (text.now ≡ pairs_text (map pair_of r.0) ++ 10 ∷ r.1.now) × ArePairs (10 ^ 19) (2 ^ 60) (map pair_of r.0))) }
-    ensures none { IfOk result (λ o. IfNone o ((weights : List Weight) (rest : List ℕ) → ArePairs (10 ^ 19) (2 ^ 60) (map pair_of weights) → text.now ≡ pairs_text (map pair_of weights) ++ 10 ∷ rest → ⊥)) }
+    ensures some { IfOk result (λ o. IfSome o (λ r.
+        (text.now ≡ pairs_text (map pair_of r.0) ++ 10 ∷ r.1.now)
+        × ArePairs (10 ^ 19) MAX_WEIGHT (map pair_of r.0))) }
+    ensures none { IfOk result (λ o. IfNone o ((weights : List Weight) (rest : List ℕ) →
+        ArePairs (10 ^ 19) MAX_WEIGHT (map pair_of weights) →
+        text.now ≡ pairs_text (map pair_of weights) ++ 10 ∷ rest → ⊥)) }
 {
-    let Some((line, rest)) = cut(text, b'\n') else {
+    let Some((line, rest)) = split_at_byte(text, b'\n') else {
         return Ok(None);
     };
     match read_pairs(alloc, line, NUMBERS, GREATEST_WEIGHT)? {
@@ -75,8 +80,11 @@ fn weights_line(alloc: Global, text: &[u8]) -> Result<Option<(Items<Weight>, &[u
 
 /// The line of a node with which the text begins, and what stands behind it.
 pub fn read_line(alloc: Global, text: &[u8]) -> Result<(Line, &[u8]), LineFault>
-    ensures ok { IfOk result (λ r. (text.now ≡ node_line (node_of r.0) ++ r.1.now) × IsNodeLine (node_of r.0)) }
-    ensures err { IfErr result (IsFault (λ left. (left ≡ length text.now) × ((node : Node) (rest : List ℕ) → IsNodeLine node → text.now ≡ node_line node ++ rest → ⊥))) }
+    ensures ok { IfOk result (λ r.
+        (text.now ≡ node_line (node_of r.0) ++ r.1.now) × IsNodeLine (node_of r.0)) }
+    ensures err { IfErr result (IsLineFault (λ left. (left ≡ length text.now)
+        × ((node : Node) (rest : List ℕ) → IsNodeLine node →
+        text.now ≡ node_line node ++ rest → ⊥))) }
 {
     if let Some(rest) = after(text, b"split ") {
         return match number_line(rest) {

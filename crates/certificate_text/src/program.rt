@@ -3,30 +3,23 @@
 ghost use Rattle.std.specs.Prelude.{ℕ, ◌≡◌, ◌≤◌, ◌<◌, ◌++◌, ◌-◌, length, List, None, Bool, IfOk, IfErr, IfSome, IfNone};
 ghost use Rattle.merlin_model.specs.Programs.{Program as Stated, Row};
 ghost use Rattle.certificate_text.specs.ProgramTexts.{head_text, kind_word, row_line, program_text, IsRowLine, IsProgramText};
-ghost use Rattle.certificate_text.specs.Faults.{IsFirstWrongLine};
-ghost use Rattle.certificate_text.specs.Outcomes.{IsFault, GoesWrong};
+ghost use Rattle.merlin_base.specs.Faults.{IsFirstWrongLine, GoesWrong};
+ghost use Rattle.certificate_text.specs.Outcomes.{IsLineFault};
 ghost use Rattle.certificate_text.specs.ProgramAnswers.{IsProgramFault};
 
-use crate::cuts::{after, cut, cut_before};
 use crate::fault::LineFault;
 use crate::line::number_line;
-use crate::numbers::read_whole;
 use crate::pairs::read_pairs;
 use integer_program::{PlainProgram, PlainRow, Program};
+use merlin_base::{after, cut_before, read_whole, split_at_byte};
 use merlin_model::OutOfMemory;
+use merlin_model::limits::{MAX_COEFFICIENT, MAX_RIGHT_SIDE, MAX_ROWS, MAX_VARIABLES};
 use std::alloc::Global;
 
-/// No program has more variables.
-const MOST_VARIABLES: usize = 32768;
+// the limits on numbers, as their reader takes them
+const GREATEST_COEFFICIENT: usize = MAX_COEFFICIENT as usize;
 
-/// No program has more rows.
-const MOST_ROWS: usize = 16384;
-
-/// No coefficient is greater, or less than its opposite.
-const GREATEST_COEFFICIENT: usize = 1_000_000_000;
-
-/// No right side is greater, or less than its opposite.
-const GREATEST_RIGHT: usize = 1 << 45;
+const GREATEST_RIGHT: usize = MAX_RIGHT_SIDE as usize;
 
 /// Why a text is no program: the start of the first line with which no program goes on, or the length where lines are missing.
 #[derive(Clone, Copy)]
@@ -35,32 +28,34 @@ pub enum ProgramTextFault {
     OutOfMemory,
 }
 
-/// The number of variables by the first two lines, and what stands behind them.
-fn read_head(text: &[u8]) -> Result<(usize, &[u8]), LineFault>
-    ensures ok { IfOk result (λ r. (text.now ≡ head_text r.0 ++ r.1.now) × (r.0 ≤ 32768)) }
-    ensures err { IfErr result (IsFault (GoesWrong head_text (λ count. count ≤ 32768) text.now)) }
+// The number of variables by the first two lines, and what stands behind them. Where they go wrong, what is left of the text from
+// the wrong line on.
+fn read_head(text: &[u8]) -> Result<(usize, &[u8]), usize>
+    ensures ok { IfOk result (λ r. (text.now ≡ head_text r.0 ++ r.1.now) × (r.0 ≤ MAX_VARIABLES)) }
+    ensures err { IfErr result (GoesWrong head_text (λ count. count ≤ MAX_VARIABLES) text.now) }
 {
     let Some(rest) = after(text, b"program 1\n") else {
-        return Err(LineFault::Wrong(text.len()));
+        return Err(text.len());
     };
     let Some(number) = after(rest, b"variables ") else {
-        return Err(LineFault::Wrong(rest.len()));
+        return Err(rest.len());
     };
     match number_line(number) {
         Some((count, rows)) => {
-            if MOST_VARIABLES < count {
-                return Err(LineFault::Wrong(rest.len()));
+            if MAX_VARIABLES < count {
+                return Err(rest.len());
             }
             Ok((count, rows))
         }
-        None => Err(LineFault::Wrong(rest.len())),
+        None => Err(rest.len()),
     }
 }
 
-/// Whether a row is an equality, by the words that it begins with, and what stands behind them.
+// Whether a row is an equality, by the words that it begins with, and what stands behind them.
 fn read_kind(text: &[u8]) -> Option<(bool, &[u8])>
     ensures some { IfSome result (λ r. text.now ≡ kind_word r.0 ++ r.1.now) }
-    ensures none { IfNone result ((is_equality : Bool) (rest : List ℕ) → text.now ≡ kind_word is_equality ++ rest → ⊥) }
+    ensures none { IfNone result ((is_equality : Bool) (rest : List ℕ) →
+        text.now ≡ kind_word is_equality ++ rest → ⊥) }
 {
     if let Some(rest) = after(text, b"row le ") {
         return Some((false, rest));
@@ -69,20 +64,22 @@ fn read_kind(text: &[u8]) -> Option<(bool, &[u8])>
     Some((true, rest))
 }
 
-/// The row with which the text begins, and what stands behind it.
+// The row with which the text begins, and what stands behind it.
 fn read_row(
     alloc: Global,
     text: &[u8],
     count: usize,
 ) -> Result<Option<(PlainRow, &[u8])>, OutOfMemory>
-    requires { count ≤ 32768 }
-    ensures some { IfOk result (λ o. IfSome o (λ r. (text.now ≡ row_line r.0 ++ r.1.now) × IsRowLine count r.0)) }
-    ensures none { IfOk result (λ o. IfNone o ((row : Row) (rest : List ℕ) → IsRowLine count row → text.now ≡ row_line row ++ rest → ⊥)) }
+    requires { count ≤ MAX_VARIABLES }
+    ensures some { IfOk result (λ o. IfSome o (λ r.
+        (text.now ≡ row_line r.0 ++ r.1.now) × IsRowLine count r.0)) }
+    ensures none { IfOk result (λ o. IfNone o ((row : Row) (rest : List ℕ) →
+        IsRowLine count row → text.now ≡ row_line row ++ rest → ⊥)) }
 {
     let Some((is_equality, words)) = read_kind(text) else {
         return Ok(None);
     };
-    let Some((line, rest)) = cut(words, b'\n') else {
+    let Some((line, rest)) = split_at_byte(words, b'\n') else {
         return Ok(None);
     };
     let (number, pairs) = cut_before(line, b' ');
@@ -95,10 +92,13 @@ fn read_row(
     }
 }
 
-/// The program of the text, or the first wrong line.
+// The program of the text, or the first wrong line.
 fn read_whole_program(alloc: Global, text: &[u8]) -> Result<PlainProgram, LineFault>
-    ensures ok { IfOk result (λ program. let stated = ⟦<PlainProgram as Program>⟧.instance program None in (text.now ≡ program_text stated) × IsProgramText stated) }
-    ensures err { IfErr result (IsFault (λ left. (left ≤ length text.now) × IsFirstWrongLine program_text IsProgramText text.now (length text.now - left))) }
+    ensures ok { IfOk result (λ program.
+        let stated = ⟦<PlainProgram as Program>⟧.instance program None in
+        (text.now ≡ program_text stated) × IsProgramText stated) }
+    ensures err { IfErr result (IsLineFault (λ left. (left ≤ length text.now)
+        × IsFirstWrongLine program_text IsProgramText text.now (length text.now - left))) }
 {
     let (count, mut rest) = read_head(text)?;
     let mut program = PlainProgram::new(alloc, count);
@@ -109,7 +109,7 @@ fn read_whole_program(alloc: Global, text: &[u8]) -> Result<PlainProgram, LineFa
             }
             return Err(LineFault::Wrong(more.len()));
         }
-        if program.rows() == MOST_ROWS {
+        if program.rows() == MAX_ROWS {
             return Err(LineFault::Wrong(rest.len()));
         }
         let Some((row, others)) = read_row(alloc, rest, count)? else {
@@ -122,8 +122,12 @@ fn read_whole_program(alloc: Global, text: &[u8]) -> Result<PlainProgram, LineFa
 
 /// The program that a text stands for. Where it is none, the fault is at the start of the first line with which no program goes on.
 pub fn read_program(alloc: Global, bytes: &[u8]) -> Result<PlainProgram, ProgramTextFault>
-    ensures ok { IfOk result (λ program. let stated = ⟦<PlainProgram as Program>⟧.instance program None in (bytes.now ≡ program_text stated) × IsProgramText stated) }
-    ensures only { IfOk result (λ program. (other : Stated) → IsProgramText other → bytes.now ≡ program_text other → other ≡ ⟦<PlainProgram as Program>⟧.instance program None) }
+    ensures ok { IfOk result (λ program.
+        let stated = ⟦<PlainProgram as Program>⟧.instance program None in
+        (bytes.now ≡ program_text stated) × IsProgramText stated) }
+    ensures only { IfOk result (λ program. (other : Stated) → IsProgramText other →
+        bytes.now ≡ program_text other →
+        other ≡ ⟦<PlainProgram as Program>⟧.instance program None) }
     ensures err { IfErr result (IsProgramFault bytes.now) }
 {
     match read_whole_program(alloc, bytes) {

@@ -1,25 +1,27 @@
-//! Trees as texts.
+//! Trees as texts: recursive descent over the lines of the nodes, in preorder.
 
 ghost use Rattle.std.specs.Prelude.{ℕ, ◌≡◌, ◌≤◌, ◌<◌, ◌+◌, ◌-◌, ◌^◌, ◌++◌, List, length, map, Ok, string_bytes, IfOk, IfErr, OnOk, Option, Bool};
 ghost use Rattle.std.specs.List.{AllByRecursion};
 ghost use Rattle.merlin_model.specs.declared.certificate.Tree.{Tree};
 ghost use Rattle.merlin_model.specs.Trees.{nodes_of};
-ghost use Rattle.certificate_text.specs.Faults.{IsFirstWrongLine};
-ghost use Rattle.certificate_text.specs.Pairs.{pairs_text};
-ghost use Rattle.certificate_text.specs.TreeTexts.{pair_of, node_lines, nodes_in, tree_text, IsNodeLine, IsWithin, IsTreeText};
-ghost use Rattle.certificate_text.specs.Outcomes.{IsFault, GoesWrong};
+ghost use Rattle.merlin_base.specs.Faults.{IsFirstWrongLine, GoesWrong};
+ghost use Rattle.merlin_base.specs.Pairs.{pairs_text};
+ghost use Rattle.merlin_base.specs.NodeTexts.{pair_of, node_lines, nodes_in, IsNodeLine, IsWithin};
+ghost use Rattle.certificate_text.specs.TreeTexts.{tree_text, IsTreeText};
+ghost use Rattle.certificate_text.specs.Outcomes.{IsLineFault};
 ghost use Rattle.certificate_text.specs.TreeAnswers.{IsTreeFault};
 
-use crate::cuts::after;
 use crate::fault::LineFault;
 use crate::line::{Line, read_line};
 use certificate::{Tree, Weight};
+use merlin_base::after;
+use merlin_model::limits::MAX_NODES;
 use merlin_model::{Name, OutOfMemory, name_from};
 use sqlite_items::Boxed;
 use std::alloc::{AllocError, Global};
 
-/// Beside the one that a tree has at least, so many nodes may stand in a text.
-const FURTHER_NODES: usize = 4095;
+// Beside the one that a tree has at least, so many nodes may stand in a text.
+const FURTHER_NODES: usize = MAX_NODES - 1;
 
 /// Why a text is no tree: the start of the first line with which no tree goes on, or the length where lines are missing.
 #[derive(Clone, Copy)]
@@ -28,6 +30,7 @@ pub enum TreeTextFault {
     OutOfMemory,
 }
 
+// A split over two trees.
 fn split(alloc: Global, variable: usize, zero: Tree, one: Tree) -> Result<Tree, AllocError>
     ensures { IfOk result (λ tree. tree ≡ Tree.Split variable zero one) }
 {
@@ -38,12 +41,13 @@ fn split(alloc: Global, variable: usize, zero: Tree, one: Tree) -> Result<Tree, 
     })
 }
 
-/// The tree with which the text begins, what stands behind it, and how many more nodes may follow those that are owed.
+// The tree with which the text begins, what stands behind it, and how many more nodes may follow those that are owed.
 fn read_nodes(alloc: Global, text: &[u8], spare: usize) -> Result<(Tree, &[u8], usize), LineFault>
     ensures text { IfOk result (λ r. text.now ≡ node_lines r.0 ++ r.1.now) }
     ensures spare { IfOk result (λ r. r.2 + length (nodes_in r.0) ≡ spare + 1) }
     ensures each { IfOk result (λ r. AllByRecursion IsNodeLine (nodes_in r.0)) }
-    ensures err { IfErr result (IsFault (GoesWrong node_lines (IsWithin (spare + 1)) text.now)) }
+    ensures err { let goes_wrong = GoesWrong node_lines (IsWithin (spare + 1)) text.now in
+        IfErr result (IsLineFault goes_wrong) }
 {
     let (line, rest) = read_line(alloc, text)?;
     match line {
@@ -60,10 +64,11 @@ fn read_nodes(alloc: Global, text: &[u8], spare: usize) -> Result<(Tree, &[u8], 
     }
 }
 
-/// The tree that stands between the first line and the last.
+// The tree that stands between the first line and the last.
 fn read_whole_tree(alloc: Global, text: &[u8]) -> Result<Tree, LineFault>
     ensures ok { IfOk result (λ tree. (text.now ≡ tree_text tree) × IsTreeText tree) }
-    ensures err { IfErr result (IsFault (λ left. (left ≤ length text.now) × IsFirstWrongLine tree_text IsTreeText text.now (length text.now - left))) }
+    ensures err { IfErr result (IsLineFault (λ left. (left ≤ length text.now)
+        × IsFirstWrongLine tree_text IsTreeText text.now (length text.now - left))) }
 {
     let Some(nodes) = after(text, b"tree\n") else {
         return Err(LineFault::Wrong(text.len()));
@@ -82,8 +87,10 @@ fn read_whole_tree(alloc: Global, text: &[u8]) -> Result<Tree, LineFault>
 /// The tree that a text stands for. Where it is none, the fault is at the start of the first line with which no tree goes on.
 pub fn read_tree(alloc: Global, bytes: &[u8]) -> Result<Tree, TreeTextFault>
     ensures ok { IfOk result (λ tree. (bytes.now ≡ tree_text tree) × IsTreeText tree) }
-    ensures few { IfOk result (λ tree. (box : List (Option Bool)) → length (nodes_of tree box) ≤ 4096) }
-    ensures only { (tree : Tree) → IsTreeText tree → bytes.now ≡ tree_text tree → OnOk result (result ≡ Ok tree) }
+    ensures few { IfOk result (λ tree. (box : List (Option Bool)) →
+        length (nodes_of tree box) ≤ MAX_NODES) }
+    ensures only { (tree : Tree) → IsTreeText tree → bytes.now ≡ tree_text tree →
+        OnOk result (result ≡ Ok tree) }
     ensures err { IfErr result (IsTreeFault bytes.now) }
 {
     match read_whole_tree(alloc, bytes) {
@@ -95,9 +102,10 @@ pub fn read_tree(alloc: Global, bytes: &[u8]) -> Result<Tree, TreeTextFault>
     }
 }
 
-/// Adds weights to the end of a line.
+// Adds weights to the end of a line.
 fn print_weights(out: &mut String, weights: &[Weight]) -> Result<(), AllocError>
-    ensures { OnOk result (string_bytes out.new ≡ string_bytes out.old ++ pairs_text (map pair_of weights.now)) }
+    ensures { let text = pairs_text (map pair_of weights.now) in
+        OnOk result (string_bytes out.new ≡ string_bytes out.old ++ text) }
 {
     for w in weights {
         let row = w.row;
@@ -107,9 +115,10 @@ fn print_weights(out: &mut String, weights: &[Weight]) -> Result<(), AllocError>
     Ok(())
 }
 
-/// Adds the lines of the nodes.
+// Adds the lines of the nodes.
 fn print_nodes(out: &mut String, tree: &Tree) -> Result<(), AllocError>
-    ensures { OnOk result (string_bytes out.new ≡ string_bytes out.old ++ node_lines tree.now) }
+    ensures { let text = node_lines tree.now in
+        OnOk result (string_bytes out.new ≡ string_bytes out.old ++ text) }
 {
     match tree {
         Tree::Leaf(weights) => {

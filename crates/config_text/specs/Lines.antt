@@ -19,7 +19,7 @@ use Rattle.merlin_model.specs.declared.config.Config.{Config}
 use Rattle.merlin_model.specs.declared.network.FnDecl.{FnDecl}
 use Rattle.merlin_model.specs.Networks.{Network}
 use Rattle.merlin_base.specs.Addresses.{mac_text, ip_text}
-use Rattle.config_text.specs.Words.{words, line, listed, field, option_words}
+use Rattle.config_text.specs.Words.{words, line, joined_by_commas, field, option_words}
 
 -- Rules of OpenFlow.
 
@@ -41,7 +41,7 @@ match_fields m =
     ++ field (codes "tp_dst") decimal m.tp_dst
 
 abbrev pub match_text : Match → List ℕ
-match_text m = listed (codes "any") (match_fields m)
+match_text m = joined_by_commas (codes "any") (match_fields m)
 
 abbrev pub out_text : Out → List ℕ
 out_text InPort = codes "in_port"
@@ -54,7 +54,7 @@ action_text (Output out) = codes "output=" ++ out_text out
 action_text (Enqueue out queue) = codes "enqueue=" ++ (out_text out ++ (codes ":" ++ decimal queue))
 
 abbrev pub actions_text : List Action → List ℕ
-actions_text actions = listed (codes "drop") (map action_text actions)
+actions_text actions = joined_by_commas (codes "drop") (map action_text actions)
 
 abbrev pub rule_text : List ℕ → Rule → List ℕ
 rule_text location rule = words (codes "rule" ∷ location ∷ decimal rule.priority ∷ match_text rule.fits ∷ actions_text rule.actions ∷ [])
@@ -65,7 +65,7 @@ abbrev pub function_name : List FnDecl → ℕ → List ℕ
 function_name declared function = unwrap_or (option_map (λ f. f.name) (slice_get declared function)) []
 
 abbrev pub functions_text : List FnDecl → List ℕ → List ℕ
-functions_text declared functions = listed (codes "-") (map (function_name declared) functions)
+functions_text declared functions = joined_by_commas (codes "-") (map (function_name declared) functions)
 
 abbrev pub process_text : List ℕ → List FnDecl → Process → List ℕ
 process_text location declared p = words (codes "process" ∷ location ∷ decimal p.tag ∷ mac_text p.eth_dst ∷ functions_text declared p.functions
@@ -73,11 +73,11 @@ process_text location declared p = words (codes "process" ∷ location ∷ decim
 
 -- Queues and what hosts do.
 
-abbrev pub rate_text : ℕ → List ℕ
-rate_text rate = decimal rate ++ codes "kbit"
+abbrev pub rate_with_unit : ℕ → List ℕ
+rate_with_unit rate = decimal rate ++ codes "kbit"
 
 abbrev pub queue_text : List ℕ → Queue → List ℕ
-queue_text location q = words (codes "queue" ∷ location ∷ decimal q.port ∷ decimal q.queue ∷ rate_text q.rate ∷ [])
+queue_text location q = words (codes "queue" ∷ location ∷ decimal q.port ∷ decimal q.queue ∷ rate_with_unit q.rate ∷ [])
 
 abbrev pub proto_text : ℕ → List ℕ
 proto_text proto = if proto == 6 then codes "tcp" else (if proto == 17 then codes "udp" else decimal proto)
@@ -142,7 +142,7 @@ abbrev pub config_lines : Network → Config → List (List ℕ)
 config_lines net config = rule_lines net config.rules ++ process_lines net config.processes ++ queue_lines net config.queues ++ host_lines net config.hosts
 
 -- the configuration names locations and functions of the network alone
-pub record IsOver (net : Network) (config : Config) : Type 0 where
+pub record IsConfigOver (net : Network) (config : Config) : Type 0 where
   pub rules : All (λ r. r.loc < length net.locations) config.rules
   pub processes : All (λ p. p.loc < length net.locations) config.processes
   pub functions : All (λ p. All (λ f. f < length net.functions) p.functions) config.processes

@@ -1,4 +1,5 @@
--- The text of a result: what was asked for, the walks of the guaranteed statements, the configuration and the certificate.
+-- The text of a result: what was asked for, the walks of the guaranteed statements, what they put on the links, the
+-- configuration and the certificate.
 use Rattle.std.specs.Prelude.{ℕ, List, [], ◌∷◌, ◌++◌, map, Option, None, Some, codes}
 use Rattle.std.specs.Fmt.{decimal, signed_decimal}
 use Rattle.merlin_model.specs.declared.policy.Symbol.{Symbol}
@@ -12,6 +13,8 @@ use Rattle.merlin_model.specs.declared.certificate.Tree.{Tree}
 use Rattle.merlin_model.specs.Networks.{Network}
 use Rattle.merlin_model.specs.Trees.{Node, Leaf_node, Split_node, Open_end, nodes_of}
 use Rattle.config_text.specs.Words.{words, line}
+use Rattle.config_text.specs.declared.loads.Load.{Load}
+use Rattle.config_text.specs.Loads.{ratio_text, load_lines}
 use Rattle.config_text.specs.Lines.{name_at, function_name, config_lines}
 
 abbrev pub objective_word : Objective → List ℕ
@@ -21,7 +24,7 @@ objective_word Reserved = codes "reserved"
 
 abbrev pub value_text : Value → List ℕ
 value_text (Whole n) = decimal n
-value_text (Ratio load capacity) = decimal load ++ (codes "/" ++ decimal capacity)
+value_text (Ratio load capacity) = ratio_text load capacity
 
 -- a location, with the function that runs there
 abbrev pub symbol_text : Network → Symbol → List ℕ
@@ -48,8 +51,14 @@ node_text Open_end = codes "open"
 abbrev pub tree_lines : Tree → List (List ℕ)
 tree_lines tree = map (λ node. line (node_text node.1)) (nodes_of tree [])
 
+abbrev pub objective_text : Objective → Value → List ℕ
+objective_text objective value =
+    words (codes "objective" ∷ objective_word objective ∷ value_text value ∷ [])
+
 -- The lines of a result over a network, each with its newline. The walks stand beside the ids of their statements.
-abbrev pub result_lines : Network → Objective → Value → List (List ℕ × List Symbol) → Config → Tree → List (List ℕ)
-result_lines net objective value walks config tree =
-    line (codes "merlin 1 ok") ∷ line (words (codes "objective" ∷ objective_word objective ∷ value_text value ∷ []))
-    ∷ (map (λ walk. line (walk_text net walk)) walks ++ config_lines net config ++ line (codes "tree") ∷ tree_lines tree ++ line (codes "end") ∷ [])
+abbrev pub result_lines : Network → Objective → Value → List (List ℕ × List Symbol) → List Load → Config → Tree
+    → List (List ℕ)
+result_lines net objective value walks loads config tree =
+    line (codes "merlin 2 ok") ∷ line (objective_text objective value)
+    ∷ (map (λ walk. line (walk_text net walk)) walks ++ load_lines net loads ++ config_lines net config
+    ++ line (codes "tree") ∷ tree_lines tree ++ line (codes "end") ∷ [])

@@ -11,9 +11,9 @@ abbrev pub line : List ℕ → List ℕ
 line text = text ++ 10 ∷ []
 
 -- texts joined by commas, or a word where there is none
-abbrev pub listed : List ℕ → List (List ℕ) → List ℕ
-listed none [] = none
-listed none (text ∷ texts) = join_with_byte 44 (text ∷ texts)
+abbrev pub joined_by_commas : List ℕ → List (List ℕ) → List ℕ
+joined_by_commas none [] = none
+joined_by_commas none (text ∷ texts) = join_with_byte 44 (text ∷ texts)
 
 -- a name and what it is set to, if it is set
 abbrev pub field : {X : Type 0} → List ℕ → (X → List ℕ) → Option X → List (List ℕ)

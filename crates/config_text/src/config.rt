@@ -2,7 +2,7 @@
 
 ghost use Rattle.std.specs.Prelude.{◌≡◌, ◌<◌, ◌++◌, length, OnOk, IfOk};
 ghost use Rattle.std.specs.List.{All};
-ghost use Rattle.config_text.specs.Lines.{rule_lines, process_lines, queue_lines, host_lines, host_of, config_lines, IsOver};
+ghost use Rattle.config_text.specs.Lines.{rule_lines, process_lines, queue_lines, host_lines, host_of, config_lines, IsConfigOver};
 
 use crate::hosts::host_line;
 use crate::rules::{process_line, queue_line, rule_line};
@@ -33,8 +33,10 @@ fn process_lines(
     lines: &mut Vec<Name>,
 ) -> Result<(), OutOfMemory>
     requires locations { All (λ process. process.loc < length net.now.locations) processes.now }
-    requires functions { All (λ process. All (λ function. function < length net.now.functions) process.functions) processes.now }
-    ensures { OnOk result (lines.new.items ≡ lines.old.items ++ process_lines net.now processes.now) }
+    requires functions { All (λ process.
+        All (λ function. function < length net.now.functions) process.functions) processes.now }
+    ensures { OnOk result (lines.new.items ≡ lines.old.items
+        ++ process_lines net.now processes.now) }
 {
     for process in processes {
         let line = process_line(alloc, net.name(process.loc), net.functions(), process)?;
@@ -89,7 +91,7 @@ fn host_lines(
 /// The lines of a configuration, each with its newline: rules, then middleboxes, queues and hosts, each kind in the order
 /// of the configuration.
 pub fn print(alloc: Global, config: &Config, net: &Topology) -> Result<Vec<Name>, OutOfMemory>
-    requires { IsOver net.now config.now }
+    requires { IsConfigOver net.now config.now }
     ensures { IfOk result (λ lines. lines.items ≡ config_lines net.now config.now) }
 {
     let mut lines = Vec::new(alloc);

@@ -6,7 +6,7 @@ ghost use Rattle.merlin_base.specs.Addresses.{mac_text, ip_text};
 ghost use Rattle.config_text.specs.Words.{field};
 ghost use Rattle.config_text.specs.Lines.{vlan_text, type_field, match_text};
 
-use crate::line::listed;
+use crate::line::joined_by_commas;
 use merlin_base::{Name, OutOfMemory, ip_text, mac_text, name_from};
 use merlin_model::config::{Match, Vlan};
 use std::alloc::Global;
@@ -100,5 +100,5 @@ pub(crate) fn match_text(alloc: Global, fits: &Match) -> Result<Name, OutOfMemor
     fields.ip(alloc, "nw_dst", fits.nw_dst)?;
     fields.number(alloc, "tp_src", fits.tp_src)?;
     fields.number(alloc, "tp_dst", fits.tp_dst)?;
-    listed(alloc, "any", &fields.texts)
+    joined_by_commas(alloc, "any", &fields.texts)
 }

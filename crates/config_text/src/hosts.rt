@@ -25,7 +25,8 @@ fn proto_text(alloc: Global, proto: u8) -> Result<String, OutOfMemory>
 }
 
 fn proto_words(alloc: Global, line: &mut Line, proto: Option<u8>) -> Result<(), OutOfMemory>
-    ensures { OnOk result (line.new ≡ line.old ++ spaced (option_words (codes "-p") proto_text proto)) }
+    ensures { OnOk result (line.new ≡ line.old
+        ++ spaced (option_words (codes "-p") proto_text proto)) }
 {
     if let Some(proto) = proto {
         line.word(b"-p")?;
@@ -89,7 +90,8 @@ fn list_words(
     fits: &HostMatch,
     target: &[u8],
 ) -> Result<(), OutOfMemory>
-    ensures { OnOk result (line.new ≡ line.old ++ spaced (list.now ∷ host_match_words fits.now ++ target.now ∷ [])) }
+    ensures { OnOk result (line.new ≡ line.old
+        ++ spaced (list.now ∷ host_match_words fits.now ++ target.now ∷ [])) }
 {
     line.word(list)?;
     host_match_words(alloc, line, fits)?;

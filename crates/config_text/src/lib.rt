@@ -1,13 +1,15 @@
-//! The text of a configuration, line by line.
+//! The text of a configuration and of loads, line by line.
 #![tactic(auto)]
 
 mod config;
 mod fields;
 mod hosts;
 mod line;
+mod loads;
 mod rules;
 
 pub use config::print;
+pub use loads::{Load, print_loads};
 pub use merlin_model::config::{
     Action, Actions, Config, HostLine, HostMatch, Match, Out, Process, Queue, Rule, Vlan,
 };

@@ -2,7 +2,7 @@
 
 ghost use Rattle.std.specs.Prelude.{◌≡◌, ◌++◌, ◌∷◌, [], ℕ, List, OnOk, IfOk, map};
 ghost use Rattle.std.specs.Fmt.{decimal};
-ghost use Rattle.config_text.specs.Words.{listed};
+ghost use Rattle.config_text.specs.Words.{joined_by_commas};
 
 use merlin_base::{Name, OutOfMemory, name_from};
 use std::alloc::Global;
@@ -57,8 +57,12 @@ impl Line {
 }
 
 /// The texts joined by commas, or this word where there is none.
-pub(crate) fn listed(alloc: Global, none: &str, texts: &[Name]) -> Result<Name, OutOfMemory>
-    ensures { IfOk result (λ text. text ≡ listed none.now texts.now) }
+pub(crate) fn joined_by_commas(
+    alloc: Global,
+    none: &str,
+    texts: &[Name],
+) -> Result<Name, OutOfMemory>
+    ensures { IfOk result (λ text. text ≡ joined_by_commas none.now texts.now) }
 {
     let Some((first, rest)) = texts.split_first() else {
         return name_from(alloc, none.as_bytes());

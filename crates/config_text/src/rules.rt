@@ -3,10 +3,10 @@
 ghost use Rattle.std.specs.Prelude.{◌≡◌, ◌<◌, ◌++◌, ◌∷◌, [], ℕ, List, IfOk, length, string_bytes};
 ghost use Rattle.std.specs.List.{All};
 ghost use Rattle.config_text.specs.Words.{line};
-ghost use Rattle.config_text.specs.Lines.{out_text, action_text, actions_text, rule_text, functions_text, process_text, rate_text, queue_text};
+ghost use Rattle.config_text.specs.Lines.{out_text, action_text, actions_text, rule_text, functions_text, process_text, rate_with_unit, queue_text};
 
 use crate::fields::match_text;
-use crate::line::{Line, listed};
+use crate::line::{Line, joined_by_commas};
 use merlin_base::{Name, OutOfMemory, mac_text, name_from};
 use merlin_model::config::{Action, Out, Process, Queue, Rule};
 use merlin_model::network::FnDecl;
@@ -46,7 +46,7 @@ fn actions_text(alloc: Global, actions: &[Action]) -> Result<Name, OutOfMemory>
     for action in actions {
         texts.push(action_text(alloc, *action)?)?;
     }
-    listed(alloc, "drop", &texts)
+    joined_by_commas(alloc, "drop", &texts)
 }
 
 /// The line of a rule, from the name of its switch.
@@ -73,7 +73,7 @@ fn functions_text(
     for function in functions {
         names.push(declared[*function].name.copy(alloc)?)?;
     }
-    listed(alloc, "-", &names)
+    joined_by_commas(alloc, "-", &names)
 }
 
 /// The line of a middlebox, from its name and the functions that are declared.
@@ -84,7 +84,8 @@ pub(crate) fn process_line(
     process: &Process,
 ) -> Result<Name, OutOfMemory>
     requires { All (λ function. function < length declared.now) process.now.functions }
-    ensures { IfOk result (λ text. text ≡ line (process_text location.now declared.now process.now)) }
+    ensures { IfOk result (λ text.
+        text ≡ line (process_text location.now declared.now process.now)) }
 {
     let mut line = Line::new(alloc, "process")?;
     line.word(location.bytes())?;
@@ -98,8 +99,8 @@ pub(crate) fn process_line(
 }
 
 /// A rate with its unit.
-pub(crate) fn rate_text(alloc: Global, rate: u64) -> Result<String, OutOfMemory>
-    ensures { IfOk result (λ text. string_bytes text ≡ rate_text rate) }
+pub(crate) fn rate_with_unit(alloc: Global, rate: u64) -> Result<String, OutOfMemory>
+    ensures { IfOk result (λ text. string_bytes text ≡ rate_with_unit rate) }
 {
     Ok(format!(in alloc; "{rate}kbit")?)
 }
@@ -112,6 +113,6 @@ pub(crate) fn queue_line(alloc: Global, location: &Name, queue: &Queue) -> Resul
     line.word(location.bytes())?;
     line.number(alloc, u64::from(queue.port))?;
     line.number(alloc, u64::from(queue.queue))?;
-    line.word(rate_text(alloc, queue.rate)?.as_bytes())?;
+    line.word(rate_with_unit(alloc, queue.rate)?.as_bytes())?;
     line.end()
 }

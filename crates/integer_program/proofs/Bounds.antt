@@ -4,29 +4,26 @@ use Rattle.std.proofs.lemmas.Int.{ints}
 use Rattle.std.proofs.lemmas.List.{take_more, get_or-map, map-append, length-map}
 use Rattle.std.specs.List.{AllByRecursion}
 use Rattle.std.specs.List.Sorted.{IsStrictlyIncreasing}
-use Rattle.merlin_model.specs.Programs.{total, taken}
+use Rattle.merlin_model.specs.Programs.{total, coefficient_if}
+use Rattle.integer_program.specs.Bounds.{IsBounded}
 
-pub record IsWithin (bound : ℕ) (z : ℤ) : Type 0 where
-  pub low : neg_ℤ (pos bound) ≤ℤ z
-  pub high : z ≤ℤ pos bound
-
-pub within : (bound : ℕ) (z : ℤ) → nat_abs z ≤ bound → IsWithin bound z
+pub within : (bound : ℕ) (z : ℤ) → nat_abs z ≤ bound → IsBounded bound z
 within bound (pos n) h = record { low = omega (arith, ints); high = omega (arith, ints) }
 within bound (negsuc n) h = record { low = omega (arith, ints); high = omega (arith, ints) }
 
-pub within-add : (m n : ℕ) (a b : ℤ) → IsWithin m a → IsWithin n b → IsWithin (m + n) (a +ℤ b)
+pub within-add : (m n : ℕ) (a b : ℤ) → IsBounded m a → IsBounded n b → IsBounded (m + n) (a +ℤ b)
 within-add m n a b p q = record {
   low = let x = p.low in let y = q.low in omega (arith, ints);
   high = let x = p.high in let y = q.high in omega (arith, ints);
 }
 
-pub within-more : (m n : ℕ) (z : ℤ) → m ≤ n → IsWithin m z → IsWithin n z
+pub within-more : (m n : ℕ) (z : ℤ) → m ≤ n → IsBounded m z → IsBounded n z
 within-more m n z h p = record {
   low = let x = p.low in omega (arith, ints);
   high = let x = p.high in omega (arith, ints);
 }
 
-pub within-taken : (n : ℕ) (b : Bool) (z : ℤ) → IsWithin n z → IsWithin n (taken b z)
+pub within-taken : (n : ℕ) (b : Bool) (z : ℤ) → IsBounded n z → IsBounded n (coefficient_if b z)
 within-taken n true z h = h
 within-taken n false z h = record { low = omega (arith, ints); high = omega (arith, ints) }
 

@@ -1,8 +1,11 @@
 //! Boxes.
 
-ghost use Rattle.std.specs.Prelude.{◌≡◌, ◌<◌, length, slice_set, replicate, None, IfOk};
-ghost use Rattle.merlin_model.specs.Trees.{fixed_at};
+ghost use Rattle.std.specs.Prelude.{◌≡◌, ◌<◌, ◌↔◌, length, slice_set, replicate, None, IfOk, IsTrue};
+ghost use Rattle.std.specs.Option.{option_copied};
+ghost use Rattle.merlin_model.specs.Programs.{Takes, variables};
+ghost use Rattle.merlin_model.specs.Trees.{fixed_at, IsOpen};
 
+use crate::program::Program;
 use merlin_model::OutOfMemory;
 use sqlite_items::Items;
 use std::alloc::Global;
@@ -54,5 +57,26 @@ impl Fixed {
         ensures { self.new ≡ slice_set self.old variable to }
     {
         self.places.set(variable, to);
+    }
+}
+
+/// Whether a variable is open in a box: it exists, is not fixed, and may be 1.
+pub fn is_open<P: Program>(
+    program: &P,
+    cutoff: Option<&P::Cutoff>,
+    fixed: &Fixed,
+    variable: usize,
+) -> bool
+    requires takes { Takes (P.takes program.now) (option_copied cutoff) }
+    requires size { length fixed.now ≡ variables (P.instance program.now None) }
+    ensures { let stated = P.instance program.now (option_copied cutoff.entry) in
+        IsTrue result ↔ IsOpen stated fixed.now variable }
+{
+    if program.variables() <= variable {
+        return false;
+    }
+    match fixed.get(variable) {
+        None => program.upper(variable, cutoff),
+        Some(_) => false,
     }
 }

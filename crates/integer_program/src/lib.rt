@@ -7,7 +7,7 @@ pub mod program;
 pub mod relaxation;
 pub mod solution;
 
-pub use fixed::Fixed;
+pub use fixed::{Fixed, is_open};
 pub use merlin_model::certificate::Weight;
 pub use plain::{PlainProgram, PlainRow};
 pub use program::Program;

@@ -7,6 +7,7 @@ ghost use Rattle.integer_program.specs.Plain.{plain_program, with_row, plain-cut
 
 use crate::program::Program;
 use merlin_model::OutOfMemory;
+use merlin_model::limits::{MAX_ROWS, MAX_VARIABLES};
 use sqlite_items::Items;
 use std::alloc::Global;
 use std::marker::Model;
@@ -24,7 +25,8 @@ impl Model for PlainRow {
 
     ghost Value = { Row };
 
-    ghost view = { λ it. record { entries = it.entries; is_equality = it.is_equality; right = it.right } };
+    ghost view = { λ it.
+        record { entries = it.entries; is_equality = it.is_equality; right = it.right } };
 }
 
 impl PlainRow {
@@ -51,7 +53,7 @@ pub struct PlainProgram {
 impl PlainProgram {
     /// A program of so many variables, without a row.
     pub fn new(alloc: Global, variables: usize) -> PlainProgram
-        requires { variables ≤ 32768 }
+        requires { variables ≤ MAX_VARIABLES }
         ensures { ⟦<PlainProgram as Program>⟧.instance result None ≡ plain_program variables [] }
     {
         PlainProgram {
@@ -60,12 +62,15 @@ impl PlainProgram {
         }
     }
 
-    /// Adds a row after the others.
+    /// Adds a row after the others. Without memory nothing changes.
     pub fn push(&mut self, row: PlainRow) -> Result<(), OutOfMemory>
         requires row { IsRow (⟦<PlainProgram as Program>⟧.instance self.old None) row }
-        requires room { length (⟦<PlainProgram as Program>⟧.instance self.old None).rows < 16384 }
-        ensures ok { OnOk result (⟦<PlainProgram as Program>⟧.instance self.new None ≡ with_row (⟦<PlainProgram as Program>⟧.instance self.old None) row) }
-        ensures err { OnErr result (⟦<PlainProgram as Program>⟧.instance self.new None ≡ ⟦<PlainProgram as Program>⟧.instance self.old None) }
+        requires room { let program = ⟦<PlainProgram as Program>⟧.instance self.old None in
+            length program.rows < MAX_ROWS }
+        ensures ok { let program = ⟦<PlainProgram as Program>⟧.instance in
+            OnOk result (program self.new None ≡ with_row (program self.old None) row) }
+        ensures err { let program = ⟦<PlainProgram as Program>⟧.instance in
+            OnErr result (program self.new None ≡ program self.old None) }
     {
         self.rows.push(row)?;
         Ok(())

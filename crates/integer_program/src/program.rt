@@ -6,6 +6,7 @@ ghost use Rattle.merlin_model.specs.Programs.{Program as Instance, IsProgram, Ha
 
 /// A program in zeros and ones that gets narrower at smaller cutoffs. Only right sides and upper bounds move with the cutoff.
 pub trait Program {
+    /// A bound that each solution at it stays below.
     type Cutoff: Copy;
 
     /// The program as it stands at a cutoff, or without one.
@@ -23,6 +24,7 @@ pub trait Program {
     /// The cutoff that a point reaches.
     ghost value: { Self → List Bool → Self.Cutoff };
 
+    /// Whether one cutoff is smaller than another.
     ghost is_below: { Self → Self.Cutoff → Self.Cutoff → Bool };
 
     /// The number of variables.
@@ -53,7 +55,8 @@ pub trait Program {
     fn upper(&self, variable: usize, cutoff: Option<&Self::Cutoff>) -> bool
         requires in_range { variable < variables (instance self.now None) }
         requires takes { Takes (takes self.now) (option_copied cutoff) }
-        ensures { result ≡ is_chosen (instance self.now (option_copied cutoff.entry)).upper variable };
+        ensures { let stated = instance self.now (option_copied cutoff.entry) in
+            result ≡ is_chosen stated.upper variable };
 
     /// The cutoff that a point reaches.
     fn cutoff_of(&self, point: &[bool]) -> Self::Cutoff
@@ -67,7 +70,10 @@ pub trait Program {
         ensures { result ≡ is_below self.now a.now b.now };
 
     /// It has its form and keeps the limits at each cutoff.
-    ghost is_program: { (it : Self) (cutoff : Option Self.Cutoff) → Takes (takes it) cutoff → IsProgram (instance it cutoff) };
+    ghost is_program: { (it : Self) (cutoff : Option Self.Cutoff) → Takes (takes it) cutoff →
+        IsProgram (instance it cutoff) };
 
-    ghost cutoffs: { (it : Self) → HasCutoffs Self.Cutoff (instance it) (takes it) (is_below it) (value it) };
+    /// How it moves with its cutoffs.
+    ghost cutoffs: { (it : Self) →
+        HasCutoffs Self.Cutoff (instance it) (takes it) (is_below it) (value it) };
 }

@@ -26,7 +26,7 @@ pub trait Relaxation<P: Program> {
     /// Whether it is one of a program.
     ghost is_of: { Self → P → Bool };
 
-    /// What it finds of a box that fixes to 1 only what may be 1.
+    /// What it finds of a box that fixes to 1 only what may be 1. It stays one of the program, without memory too.
     fn look(
         &mut self,
         alloc: Global,
@@ -38,5 +38,7 @@ pub trait Relaxation<P: Program> {
         requires takes { Takes (P.takes program.now) (option_copied cutoff) }
         requires in_box { IsBox (P.instance program.now (option_copied cutoff)) fixed.now }
         ensures of { IsTrue (is_of self.new program.now) }
-        ensures lawful { IfOk result (IsLawful (P.instance program.now (option_copied cutoff.entry)) (P.easy program.now (option_copied cutoff.entry)) (P.neat program.now) fixed.now) };
+        ensures lawful { let at = option_copied cutoff.entry in
+            let stated = P.instance program.now at in
+            IfOk result (IsLawful stated (P.easy program.now at) (P.neat program.now) fixed.now) };
 }

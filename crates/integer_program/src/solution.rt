@@ -1,16 +1,18 @@
 //! Solutions of programs.
 
-ghost use Rattle.std.specs.Prelude.{ℕ, ◌≡◌, ◌<◌, ◌≤◌, ◌^◌, ◌↔◌, length, IsTrue, true, nat_abs};
+ghost use Rattle.std.specs.Prelude.{ℕ, ◌≡◌, ◌<◌, ◌≤◌, ◌↔◌, length, IsTrue, true, nat_abs};
 ghost use Rattle.std.specs.List.{AllByRecursion};
 ghost use Rattle.std.specs.Option.{option_copied};
-ghost use Rattle.merlin_model.specs.Programs.{Takes, variables, row_at, is_chosen, left_of, Compares, IsSolution};
+ghost use Rattle.merlin_model.specs.Programs.{Row, Takes, variables, row_at, is_chosen, left_side, Compares, IsSolution};
 
 use crate::program::Program;
+use merlin_model::limits::{MAX_COEFFICIENT, MAX_VARIABLES};
 
 /// Whether a point gives each variable 0 or 1 within its bound and meets all rows.
 pub fn is_solution<P: Program>(program: &P, cutoff: Option<&P::Cutoff>, point: &[bool]) -> bool
     requires { Takes (P.takes program.now) (option_copied cutoff) }
-    ensures { IsTrue result ↔ IsSolution (P.instance program.now (option_copied cutoff.entry)) point.now }
+    ensures { let stated = P.instance program.now (option_copied cutoff.entry) in
+        IsTrue result ↔ IsSolution stated point.now }
 {
     if point.len() != program.variables() {
         return false;
@@ -18,14 +20,16 @@ pub fn is_solution<P: Program>(program: &P, cutoff: Option<&P::Cutoff>, point: &
     if !is_within(program, cutoff, point) {
         return false;
     }
-    meets_all(program, cutoff, point)
+    meets_rows(program, cutoff, point)
 }
 
-/// Whether no variable of the point is 1 that may not be.
+// Whether no variable of the point is 1 that may not be.
 fn is_within<P: Program>(program: &P, cutoff: Option<&P::Cutoff>, point: &[bool]) -> bool
     requires takes { Takes (P.takes program.now) (option_copied cutoff) }
     requires size { length point.now ≡ variables (P.instance program.now None) }
-    ensures { IsTrue result ↔ ((variable : ℕ) → is_chosen point.now variable ≡ true → is_chosen (P.instance program.now (option_copied cutoff.entry)).upper variable ≡ true) }
+    ensures { let stated = P.instance program.now (option_copied cutoff.entry) in
+        IsTrue result ↔ ((variable : ℕ) →
+        is_chosen point.now variable ≡ true → is_chosen stated.upper variable ≡ true) }
 {
     for (variable, chosen) in point.iter().enumerate() {
         if *chosen && !program.upper(variable, cutoff) {
@@ -35,32 +39,42 @@ fn is_within<P: Program>(program: &P, cutoff: Option<&P::Cutoff>, point: &[bool]
     true
 }
 
-/// Whether the point meets each row.
-fn meets_all<P: Program>(program: &P, cutoff: Option<&P::Cutoff>, point: &[bool]) -> bool
+// Whether the point meets each row.
+fn meets_rows<P: Program>(program: &P, cutoff: Option<&P::Cutoff>, point: &[bool]) -> bool
     requires takes { Takes (P.takes program.now) (option_copied cutoff) }
     requires size { length point.now ≡ variables (P.instance program.now None) }
-    ensures { IsTrue result ↔ AllByRecursion (λ row. Compares row.is_equality (left_of row.entries point.now) row.right) (P.instance program.now (option_copied cutoff.entry)).rows }
+    ensures { let stated = P.instance program.now (option_copied cutoff.entry) in
+        let meets = λ (row : Row).
+        Compares row.is_equality (left_side row.entries point.now) row.right in
+        IsTrue result ↔ AllByRecursion meets stated.rows }
 {
     for row in 0..program.rows() {
-        if !meets(program, cutoff, point, row) {
+        if !meets_row(program, cutoff, point, row) {
             return false;
         }
     }
     true
 }
 
-/// Whether the point meets a row.
-fn meets<P: Program>(program: &P, cutoff: Option<&P::Cutoff>, point: &[bool], row: usize) -> bool
+// Whether the point meets a row.
+fn meets_row<P: Program>(
+    program: &P,
+    cutoff: Option<&P::Cutoff>,
+    point: &[bool],
+    row: usize,
+) -> bool
     requires takes { Takes (P.takes program.now) (option_copied cutoff) }
     requires size { length point.now ≡ variables (P.instance program.now None) }
     requires in_range { row < length (P.instance program.now None).rows }
-    ensures { let stated = row_at (P.instance program.now (option_copied cutoff.entry)) row in IsTrue result ↔ Compares stated.is_equality (left_of stated.entries point.now) stated.right }
+    ensures { let stated = row_at (P.instance program.now (option_copied cutoff.entry)) row in
+        let left = left_side stated.entries point.now in
+        IsTrue result ↔ Compares stated.is_equality left stated.right }
 {
     let left = left_side(program.entries(row), point);
     compares(program.is_equality(row), left, program.right(row, cutoff))
 }
 
-/// Whether the sides of a row compare as the row asks.
+// Whether the sides of a row compare as the row asks.
 fn compares(is_equality: bool, left: i64, right: i64) -> bool
     ensures { IsTrue result ↔ Compares is_equality left right }
 {
@@ -71,12 +85,12 @@ fn compares(is_equality: bool, left: i64, right: i64) -> bool
     }
 }
 
-/// The left side of a row at a point.
+// The left side of a row at a point.
 fn left_side(entries: &[(usize, i64)], point: &[bool]) -> i64
-    requires few { length entries.now ≤ 32768 }
+    requires few { length entries.now ≤ MAX_VARIABLES }
     requires exist { AllByRecursion (λ e. e.0 < length point.now) entries.now }
-    requires small { AllByRecursion (λ e. nat_abs e.1 ≤ 10 ^ 9) entries.now }
-    ensures { result ≡ left_of entries.now point.now }
+    requires small { AllByRecursion (λ e. nat_abs e.1 ≤ MAX_COEFFICIENT) entries.now }
+    ensures { result ≡ left_side entries.now point.now }
 {
     let mut left = 0;
     for (variable, coefficient) in entries {

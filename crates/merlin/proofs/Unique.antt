@@ -5,7 +5,10 @@ use Rattle.merlin_base.specs.Outside.{IsFile, IsLongerThan}
 use Rattle.merlin_base.specs.Lexemes.{number_of}
 use Rattle.merlin_model.specs.declared.policy.Objective.{Objective}
 use Rattle.merlin_model.specs.declared.policy.Objective.TheVariants.{Shortest, Ratio, Reserved}
-use Rattle.merlin.specs.Command.{Form, Compiling, Refuting, IsForm, IsBudget, word_of}
+use Rattle.config_text.specs.Result.{objective_word}
+use Rattle.merlin.specs.Compile.{CompileForm, IsCompileForm, IsBudget}
+use Rattle.merlin.specs.Refute.{RefuteForm, IsRefuteForm}
+use Rattle.merlin.specs.Commands.{Form, Compiling, Refuting, IsForm}
 use Rattle.merlin.specs.Reading.{AreContents, IsFirstTooLong}
 
 unlike : {A : Type 0} (x y : ℕ) (xs ys : List ℕ) → x ∷ xs ≡ y ∷ ys → (x ≡ y → ⊥) → A
@@ -15,16 +18,16 @@ head : {X : Type 0} {x y : X} {xs ys : List X} → x ∷ xs ≡ y ∷ ys → x �
 head e = cc
 
 -- a word is that of one objective
-word_of-same : (o o' : Objective) → word_of o ≡ word_of o' → o ≡ o'
-word_of-same Shortest Shortest e = refl
-word_of-same Ratio Ratio e = refl
-word_of-same Reserved Reserved e = refl
-word_of-same Shortest Ratio e = unlike _ _ _ _ e (λ h. omega (arith, h))
-word_of-same Shortest Reserved e = unlike _ _ _ _ e (λ h. omega (arith, h))
-word_of-same Ratio Shortest e = unlike _ _ _ _ e (λ h. omega (arith, h))
-word_of-same Ratio Reserved e = absurd (omega (arith, ap length e))
-word_of-same Reserved Shortest e = unlike _ _ _ _ e (λ h. omega (arith, h))
-word_of-same Reserved Ratio e = absurd (omega (arith, ap length e))
+objective_word-same : (o o' : Objective) → objective_word o ≡ objective_word o' → o ≡ o'
+objective_word-same Shortest Shortest e = refl
+objective_word-same Ratio Ratio e = refl
+objective_word-same Reserved Reserved e = refl
+objective_word-same Shortest Ratio e = unlike _ _ _ _ e (λ h. omega (arith, h))
+objective_word-same Shortest Reserved e = unlike _ _ _ _ e (λ h. omega (arith, h))
+objective_word-same Ratio Shortest e = unlike _ _ _ _ e (λ h. omega (arith, h))
+objective_word-same Ratio Reserved e = absurd (omega (arith, ap length e))
+objective_word-same Reserved Shortest e = unlike _ _ _ _ e (λ h. omega (arith, h))
+objective_word-same Reserved Ratio e = absurd (omega (arith, ap length e))
 
 nothing_else : {X : Type 0} (x : X) → [] ≡ x ∷ [] → ⊥
 nothing_else x e = cc
@@ -35,42 +38,57 @@ IsBudget-same rest n m (inl p) (inr q) = absurd (nothing_else q.0 (sym p.0 ∙ q
 IsBudget-same rest n m (inr p) (inl q) = absurd (nothing_else p.0 (sym q.0 ∙ p.1))
 IsBudget-same rest n m (inr p) (inr q) = let text : p.0 ≡ q.0 = head (sym p.1 ∙ q.1) in p.2.value ∙ ap number_of text ∙ sym q.2.value
 
-pub IsForm-same : (words : List (List ℕ)) (f g : Form) → IsForm words f → IsForm words g → f ≡ g
-IsForm-same words (Compiling p t o b) (Compiling p' t' o' b') (rest, e, budget) (rest', e', budget') =
-    let policy : p ≡ p' = cc in
-    let topology : t ≡ t' = cc in
-    let word : word_of o ≡ word_of o' = cc in
+IsCompileForm-same : (words : List (List ℕ)) (f g : CompileForm) → IsCompileForm words f
+    → IsCompileForm words g → f ≡ g
+IsCompileForm-same words f g (rest, e, budget) (rest', e', budget') =
+    let policy : f.policy ≡ g.policy = cc in
+    let topology : f.topology ≡ g.topology = cc in
+    let word : objective_word f.objective ≡ objective_word g.objective = cc in
     let left : rest' ≡ rest = cc in
-    let objective : o ≡ o' = word_of-same o o' word in
-    let number : b ≡ b' = IsBudget-same rest b b' budget (subst (λ r. IsBudget r b') left budget') in
-    λ i. Compiling (policy i) (topology i) (objective i) (number i)
-IsForm-same words (Refuting p t) (Refuting p' t') e e' =
-    let program : p ≡ p' = cc in
-    let tree : t ≡ t' = cc in
-    λ i. Refuting (program i) (tree i)
-IsForm-same words (Compiling p t o b) (Refuting p' t') (rest, e, budget) e' = unlike _ _ _ _ (head (sym e ∙ e')) (λ h. omega (arith, h))
-IsForm-same words (Refuting p t) (Compiling p' t' o' b') e (rest', e', budget') = unlike _ _ _ _ (head (sym e ∙ e')) (λ h. omega (arith, h))
+    let objective : f.objective ≡ g.objective = objective_word-same f.objective g.objective word in
+    let number : f.budget ≡ g.budget = IsBudget-same rest f.budget g.budget budget (subst (λ r. IsBudget r g.budget) left budget') in
+    λ i. record { policy = policy i; topology = topology i; objective = objective i; budget = number i }
 
-IsFile-same : (told : List ℕ → Option (List ℕ)) (name xs ys : List ℕ) → IsFile (Some told) name xs → IsFile (Some told) name ys → xs ≡ ys
-IsFile-same told name xs ys p q = cc
+IsRefuteForm-same : (words : List (List ℕ)) (f g : RefuteForm) → IsRefuteForm words f
+    → IsRefuteForm words g → f ≡ g
+IsRefuteForm-same words f g e e' =
+    let program : f.program ≡ g.program = cc in
+    let tree : f.tree ≡ g.tree = cc in
+    λ i. record { program = program i; tree = tree i }
 
-IsFile-longer : (told : List ℕ → Option (List ℕ)) (name xs : List ℕ) (limit : ℕ) → IsFile (Some told) name xs → length xs ≤ limit → IsLongerThan (Some told) name limit → ⊥
-IsFile-longer told name xs limit p few (ys, q, many) = let same : xs ≡ ys = cc in omega (arith, ap length same)
+-- The words are one form: commands begin with different words.
+pub IsForm-same : (words : List (List ℕ)) (f g : Form) → IsForm words f → IsForm words g → f ≡ g
+IsForm-same words (Compiling f) (Compiling g) is is' = ap Compiling (IsCompileForm-same words f g is is')
+IsForm-same words (Refuting f) (Refuting g) is is' = ap Refuting (IsRefuteForm-same words f g is is')
+IsForm-same words (Compiling f) (Refuting g) (rest, e, budget) e' = unlike _ _ _ _ (head (sym e ∙ e')) (λ h. omega (arith, h))
+IsForm-same words (Refuting f) (Compiling g) e (rest', e', budget') = unlike _ _ _ _ (head (sym e ∙ e')) (λ h. omega (arith, h))
 
-pub AreContents-same : (told : List ℕ → Option (List ℕ)) (files : List (List ℕ × ℕ)) (xs ys : List (List ℕ)) → AreContents (Some told) files xs → AreContents (Some told) files ys → xs ≡ ys
-AreContents-same told [] [] [] p q = refl
-AreContents-same told [] [] (y ∷ ys) p q = absurd q
-AreContents-same told [] (x ∷ xs) ys p q = absurd p
-AreContents-same told (f ∷ files) [] ys p q = absurd p
-AreContents-same told (f ∷ files) (x ∷ xs) [] p q = absurd q
-AreContents-same told (f ∷ files) (x ∷ xs) (y ∷ ys) p q =
-    let one : x ≡ y = IsFile-same told f.0 x y p.0 q.0 in
-    let more : xs ≡ ys = AreContents-same told files xs ys p.2 q.2 in
+IsFile-same : (known : List ℕ → Option (List ℕ)) (name xs ys : List ℕ) → IsFile (Some known) name xs
+    → IsFile (Some known) name ys → xs ≡ ys
+IsFile-same known name xs ys p q = cc
+
+IsFile-longer : (known : List ℕ → Option (List ℕ)) (name xs : List ℕ) (limit : ℕ)
+    → IsFile (Some known) name xs → length xs ≤ limit → IsLongerThan (Some known) name limit → ⊥
+IsFile-longer known name xs limit p few (ys, q, many) = let same : xs ≡ ys = cc in omega (arith, ap length same)
+
+pub AreContents-same : (known : List ℕ → Option (List ℕ)) (files : List (List ℕ
+    × ℕ)) (xs ys : List (List ℕ)) → AreContents (Some known) files xs
+    → AreContents (Some known) files ys → xs ≡ ys
+AreContents-same known [] [] [] p q = refl
+AreContents-same known [] [] (y ∷ ys) p q = absurd q
+AreContents-same known [] (x ∷ xs) ys p q = absurd p
+AreContents-same known (f ∷ files) [] ys p q = absurd p
+AreContents-same known (f ∷ files) (x ∷ xs) [] p q = absurd q
+AreContents-same known (f ∷ files) (x ∷ xs) (y ∷ ys) p q =
+    let one : x ≡ y = IsFile-same known f.0 x y p.0 q.0 in
+    let more : xs ≡ ys = AreContents-same known files xs ys p.2 q.2 in
     λ i. one i ∷ more i
 
 -- where each file is within its limit none is too long
-pub AreContents-short : (told : List ℕ → Option (List ℕ)) (files : List (List ℕ × ℕ)) (xs : List (List ℕ)) (name : List ℕ) → AreContents (Some told) files xs → IsFirstTooLong (Some told) files name → ⊥
-AreContents-short told [] xs name p long = long
-AreContents-short told (f ∷ files) [] name p long = p
-AreContents-short told (f ∷ files) (x ∷ xs) name p (inl long) = IsFile-longer told f.0 x f.1 p.0 p.1 long.1
-AreContents-short told (f ∷ files) (x ∷ xs) name p (inr (text, file, fits, more)) = AreContents-short told files xs name p.2 more
+pub AreContents-short : (known : List ℕ → Option (List ℕ)) (files : List (List ℕ
+    × ℕ)) (xs : List (List ℕ)) (name : List ℕ) → AreContents (Some known) files xs
+    → IsFirstTooLong (Some known) files name → ⊥
+AreContents-short known [] xs name p long = long
+AreContents-short known (f ∷ files) [] name p long = p
+AreContents-short known (f ∷ files) (x ∷ xs) name p (inl long) = IsFile-longer known f.0 x f.1 p.0 p.1 long.1
+AreContents-short known (f ∷ files) (x ∷ xs) name p (inr (text, file, fits, more)) = AreContents-short known files xs name p.2 more

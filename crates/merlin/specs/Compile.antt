@@ -1,57 +1,92 @@
--- What a policy compiles to over a topology, and what is refused.
-use Rattle.std.specs.Prelude.{◌≡◌, ◌≢◌, ℕ, ⊤, List, [], Some}
+-- The command `compile`.
+use Rattle.std.specs.Prelude.{◌≡◌, ◌⊎◌, ◌≤◌, ◌*◌, ◌++◌, ℕ, List, [], ◌∷◌, codes, pos, length}
+use Rattle.merlin_base.specs.Lexemes.{IsDecimal}
+use Rattle.merlin_base.specs.declared.status.Status.{Status}
+use Rattle.merlin_base.specs.declared.status.Status.TheVariants as status
+use Rattle.merlin_model.specs.declared.certificate.Tree.{Tree, Leaf}
 use Rattle.merlin_model.specs.declared.policy.Objective.{Objective}
-use Rattle.merlin_model.specs.Assignments.{value_of}
-use Rattle.merlin_model.specs.Headline.{DeliversPackets}
-use Rattle.policy_grammar.specs.declared.written.RawPath.{RawPath, Dot, Star}
-use Rattle.policy_expansion.specs.declared.policy.Policy.{Policy}
-use Rattle.policy_parser.specs.declared.fault.PolicyFault.{PolicyFault}
-use Rattle.policy_parser.specs.declared.fault.PolicyFault.TheVariants as faults
-use Rattle.policy_parser.specs.Policies.{IsPolicyText, IsRefused}
-use Rattle.topology.specs.Format.{IsTopology}
-use Rattle.topology.specs.Faults.{Refuses as TopologyRefuses}
-use Rattle.rules_model.specs.Plain.{any_path_policy}
-use Rattle.plain_compile.specs.Config.{IsPlainConfig}
-use Rattle.merlin.specs.declared.compile.Compiled.{Compiled}
-use Rattle.merlin.specs.declared.compile.EarlyFault.{EarlyFault}
-use Rattle.merlin.specs.declared.compile.EarlyFault.TheVariants as early
+use Rattle.merlin_model.specs.declared.policy.Value.{Value}
+use Rattle.std.specs.Fmt.{decimal}
+use Rattle.merlin_model.specs.Networks.{Network}
+use Rattle.config_text.specs.Words.{words, line}
+use Rattle.config_text.specs.Result.{objective_word, objective_text, result_lines}
+use Rattle.merlin.specs.declared.reading.TheConstants.{TEXT_LIMIT}
+use Rattle.merlin.specs.declared.compile.TheConstants.{DEFAULT_BUDGET, MAX_BUDGET}
+use Rattle.merlin.specs.declared.compile.Compile.{Compile}
+use Rattle.merlin.specs.declared.compile.CompileReply.{CompileReply}
+use Rattle.merlin.specs.declared.compile.CompileReply.TheVariants.{Refused, Least}
+use Rattle.merlin.specs.declared.compiler.Compiled.{Compiled}
+use Rattle.merlin.specs.Compiler.{IsRefusal, IsCompiledFrom, early_fault_text}
 
--- the path `.*`
-abbrev pub every_way : RawPath
-every_way = Star Dot
+-- Its words and its files.
 
--- the policy that is built so far: no statement, no term, and a default that allows every way
-abbrev pub plain_policy : Policy
-plain_policy = record { statements = []; default_path = Some every_way; formula = record { terms = [] } }
+pub record CompileForm : Type 0 where
+  pub policy : List ℕ
+  pub topology : List ℕ
+  pub objective : Objective
+  pub budget : ℕ
 
--- the text stands for that policy
-abbrev pub IsPlainPolicy : List ℕ → Type 0
-IsPlainPolicy text = IsPolicyText text plain_policy
+abbrev pub compile_form : Compile → CompileForm
+compile_form words = record {
+  policy = words.policy.now;
+  topology = words.topology.now;
+  objective = words.objective;
+  budget = words.budget;
+}
 
--- The text stands for a policy that is not built yet.
-pub record IsOtherPolicy (text : List ℕ) : Type 0 where
-  pub policy : Policy
-  pub stands : IsPolicyText text policy
-  pub other : policy ≢ plain_policy
+-- what may follow the objective: nothing, for the default, or a number up to the greatest
+abbrev pub IsBudget : List (List ℕ) → ℕ → Type 0
+IsBudget rest budget =
+    ((rest ≡ []) × (budget ≡ DEFAULT_BUDGET))
+    ⊎ ((text : List ℕ) × (rest ≡ text ∷ []) × IsDecimal text budget
+    × (1 ≤ budget) × (budget ≤ MAX_BUDGET))
 
--- The result is that of the policy over the network of the topology: the value of reserving nothing, and the configuration that
--- lets each packet go a shortest way. It delivers packets as the policy promises.
-pub record IsCompiledFrom (policy topology : List ℕ) (objective : Objective) (compiled : Compiled) : Type 0 where
-  pub plain : IsPlainPolicy policy
-  pub network : IsTopology topology compiled.net
-  pub asked : compiled.objective ≡ objective
-  pub value : compiled.value ≡ value_of compiled.net any_path_policy [] objective []
-  pub config : IsPlainConfig compiled.net compiled.config
-  pub delivers : DeliversPackets compiled.net any_path_policy [] [] compiled.config
+abbrev pub IsCompileForm : List (List ℕ) → CompileForm → Type 0
+IsCompileForm words form = (rest : List (List ℕ))
+    × (words ≡ codes "compile" ∷ form.policy ∷ form.topology ∷ objective_word form.objective ∷ rest)
+    × IsBudget rest form.budget
 
--- The policy is looked at first, then the topology.
-abbrev pub Refuses : EarlyFault → List ℕ → List ℕ → Type 0
-Refuses (early.Policy fault) policy topology = IsRefused fault policy
-Refuses early.Unbuilt policy topology = IsOtherPolicy policy
-Refuses (early.Net fault) policy topology = IsPlainPolicy policy × TopologyRefuses fault topology
-Refuses early.OutOfMemory policy topology = ⊤
+abbrev pub compile_files : CompileForm → List (List ℕ × ℕ)
+compile_files form = (form.policy, TEXT_LIMIT) ∷ (form.topology, TEXT_LIMIT) ∷ []
 
--- what a fault of the policy is here: want of memory is no fault of its text
-abbrev pub early_of : PolicyFault → EarlyFault
-early_of faults.OutOfMemory = early.OutOfMemory
-early_of fault = early.Policy fault
+-- What each reply means of the policy and the topology.
+
+abbrev pub Compiles : CompileForm → List ℕ → List ℕ → CompileReply → Type 0
+Compiles form policy topology (Refused fault) = IsRefusal fault policy topology
+Compiles form policy topology (Least compiled) =
+    IsCompiledFrom policy topology form.objective compiled
+
+abbrev pub IsCompileReply : CompileForm → List (List ℕ) → CompileReply → Type 0
+IsCompileReply form contents reply = (policy topology : List ℕ)
+    × (contents ≡ policy ∷ topology ∷ []) × Compiles form policy topology reply
+
+-- Its lines and its status.
+
+-- The certificate where nothing is reserved: one leaf on the last row, which asks for a value below
+-- 0. It stands after the rows of the
+-- directed links.
+abbrev pub cutoff_leaf : Network → Tree
+cutoff_leaf net = Leaf (record { row = 2 * length net.links; weight = pos 1 } ∷ [])
+
+-- a result without walks and loads
+abbrev pub compiled_lines : Compiled → List (List ℕ)
+compiled_lines c = result_lines c.net c.objective c.value [] [] c.config (cutoff_leaf c.net)
+
+abbrev pub compile_lines : CompileReply → List (List ℕ)
+compile_lines (Refused fault) = line (codes "refused: " ++ early_fault_text fault) ∷ []
+compile_lines (Least compiled) = compiled_lines compiled
+
+abbrev pub compile_status : CompileReply → Status
+compile_status (Refused fault) = status.Refused
+compile_status (Least compiled) = status.Done
+
+-- the head of a result, and this certificate, line by line
+abbrev pub head_lines : Objective → Value → List (List ℕ)
+head_lines objective value =
+    line (codes "merlin 2 ok") ∷ line (objective_text objective value) ∷ []
+
+abbrev pub leaf_lines : ℕ → List (List ℕ)
+leaf_lines row =
+    line (codes "tree")
+    ∷ line (words (codes "leaf" ∷ (decimal row ++ (codes ":" ++ decimal 1)) ∷ []))
+    ∷ line (codes "end") ∷ []

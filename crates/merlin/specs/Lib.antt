@@ -1,8 +1,9 @@
-pub mod Command
+pub mod Words
+pub mod Reading
+pub mod Compiler
 pub mod Compile
 pub mod Refute
-pub mod Reading
-pub mod Answer
-pub mod Parts
-pub mod Report
+pub mod Commands
 pub mod Outcome
+pub mod Parts
+pub mod Runs

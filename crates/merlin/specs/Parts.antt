@@ -1,60 +1,72 @@
--- What the parts of the program answer, on the way to the whole answer. Nothing is said of want of memory.
-use Rattle.std.specs.Prelude.{◌≡◌, ◌⊎◌, ℕ, ⊤, List}
-use Rattle.merlin_base.specs.Outside.{Told}
-use Rattle.merlin_base.specs.declared.transfer.ReadFail.{ReadFail}
-use Rattle.merlin_base.specs.declared.transfer.ReadFail.TheVariants as fails
-use Rattle.merlin.specs.Command.{Form, files_of}
-use Rattle.merlin.specs.Reading.{AreContents, IsFirstTooLong, RoseIn}
-use Rattle.merlin.specs.Answer.{Answers, IsAnswer, IsPrintable, RoseForAFile}
+-- What the parts of the program report, on the way to the whole outcome. Nothing is said of want of
+-- memory.
+use Rattle.std.specs.Prelude.{◌≡◌, ◌⊎◌, ℕ, ⊤, List, Result, Ok, Err}
+use Rattle.merlin_model.specs.Functions.{Behaviour}
+use Rattle.merlin_base.specs.Texts.{joined}
+use Rattle.merlin_base.specs.Outside.{Grows, GrowsByPrefix}
+use Rattle.merlin_base.specs.declared.status.Status.{Status}
+use Rattle.config_text.specs.Lines.{IsConfigOver}
+use Rattle.merlin.specs.declared.report.Report.{Report}
 use Rattle.merlin.specs.declared.reading.Unread.{Unread}
 use Rattle.merlin.specs.declared.reading.Unread.TheVariants as unread
-use Rattle.merlin.specs.declared.answer.Answer.{Answer}
-use Rattle.merlin.specs.declared.answer.Answer.TheVariants.{Usage, ReadFault, TooLong, Refused, Done, Refuted, NotRefuted}
+use Rattle.merlin.specs.declared.compile.CompileReply.{CompileReply}
+use Rattle.merlin.specs.declared.compile.CompileReply.TheVariants.{Refused, Least}
+use Rattle.merlin.specs.declared.refute.RefuteReply.{RefuteReply}
+use Rattle.merlin.specs.Compile.{CompileForm, Compiles, compile_lines, compile_status}
+use Rattle.merlin.specs.Refute.{Checks, refute_lines, refute_status}
+use Rattle.merlin.specs.Commands.{Form, Reply, Means, reply_lines, reply_status}
+use Rattle.merlin.specs.Outcome.{World, Taking, IsBrokenOff, LacksMemory, Answer, NoForm, NotRead, TooLong, IsAnswerTo, answer_lines, answer_status}
 
--- what a read that failed is to a file of this name
-abbrev pub IsReason : ReadFail → List ℕ → Unread → Type 0
-IsReason fails.Outside name reason = reason ≡ unread.Fault
-IsReason fails.TooLong name reason = (reason ≡ unread.TooLong name) ⊎ (reason ≡ unread.OutOfMemory)
-IsReason fails.OutOfMemory name reason = reason ≡ unread.OutOfMemory
+-- the report has the lines and the status of a reply
+pub record IsCompileReport (form : CompileForm) (policy topology : List ℕ) (report : Report)
+    : Type 0 where
+  pub reply : CompileReply
+  pub compiles : Compiles form policy topology reply
+  pub lines : report.lines.items ≡ compile_lines reply
+  pub status : report.status ≡ compile_status reply
 
--- why files were not all read
-abbrev pub IsUnread : Told → List (List ℕ × ℕ) → (List ℕ → ℕ) → (List ℕ → ℕ) → Unread → Type 0
-IsUnread told files before now unread.Fault = RoseIn files before now
-IsUnread told files before now (unread.TooLong name) = IsFirstTooLong told files name
-IsUnread told files before now unread.OutOfMemory = ⊤
+pub record IsRefuteReport (program tree : List ℕ) (report : Report) : Type 0 where
+  pub reply : RefuteReply
+  pub checks : Checks program tree reply
+  pub lines : report.lines.items ≡ refute_lines reply
+  pub status : report.status ≡ refute_status reply
 
--- what is answered then
-abbrev pub Tells : Unread → Answer → Type 0
-Tells unread.Fault answer = answer ≡ ReadFault
-Tells (unread.TooLong name) answer = answer ≡ TooLong name
-Tells unread.OutOfMemory answer = ⊥
+pub record IsReplyReport (behaviour : Behaviour) (form : Form) (contents : List (List ℕ))
+    (report : Report) : Type 0 where
+  pub reply : Reply form
+  pub means : Means behaviour form contents reply
+  pub lines : report.lines.items ≡ reply_lines form reply
+  pub status : report.status ≡ reply_status form reply
 
--- the answer to a command whose files were read; it can be printed
-abbrev pub IsReplyTo : Told → Form → Answer → Type 0
-IsReplyTo told form answer = (contents : List (List ℕ)) × AreContents told (files_of form) contents × Answers form contents answer × IsPrintable answer
+-- the report has the lines and the status of an answer
+pub record IsReportOf (answer : Answer) (report : Report) : Type 0 where
+  pub lines : report.lines.items ≡ answer_lines answer
+  pub status : report.status ≡ answer_status answer
 
--- the answer to a command
-abbrev pub IsAnswerTo : Told → Form → (List ℕ → ℕ) → (List ℕ → ℕ) → Answer → Type 0
-IsAnswerTo told form before now Usage = ⊥
-IsAnswerTo told form before now ReadFault = RoseIn (files_of form) before now
-IsAnswerTo told form before now (TooLong name) = IsFirstTooLong told (files_of form) name
-IsAnswerTo told form before now (Refused refusal) = IsReplyTo told form (Refused refusal)
-IsAnswerTo told form before now (Done compiled) = IsReplyTo told form (Done compiled)
-IsAnswerTo told form before now Refuted = IsReplyTo told form Refuted
-IsAnswerTo told form before now (NotRefuted node) = IsReplyTo told form (NotRefuted node)
+-- what is reported where files were not all read
+abbrev pub Tells : Unread → Report → Type 0
+Tells unread.Fault report = IsReportOf NotRead report
+Tells (unread.TooLong name) report = IsReportOf (TooLong name) report
+Tells unread.OutOfMemory report = ⊥
 
--- a failed read is blamed on a file only where its count has risen
-abbrev pub Blames : List (List ℕ) → (List ℕ → ℕ) → (List ℕ → ℕ) → Answer → Type 0
-Blames words before now ReadFault = RoseForAFile words before now
-Blames words before now Usage = ⊤
-Blames words before now (TooLong name) = ⊤
-Blames words before now (Refused refusal) = ⊤
-Blames words before now (Done compiled) = ⊤
-Blames words before now Refuted = ⊤
-Blames words before now (NotRefuted node) = ⊤
+-- the report has the lines and the status of the answer to the words
+pub record IsReportTo (world : World) (words : List (List ℕ)) (report : Report) : Type 0 where
+  pub answer : Answer
+  pub is_answer : IsAnswerTo world words answer
+  pub is_report : IsReportOf answer report
 
--- The answer to the words. It can be printed, and blames no file whose count stands still.
-pub record IsAnswered (told : Told) (words : List (List ℕ)) (before now : List ℕ → ℕ) (answer : Answer) : Type 0 where
-  pub is_answer : IsAnswer told words answer
-  pub is_printable : IsPrintable answer
-  pub blames : Blames words before now answer
+-- the lines of a result name locations of its network, so that they can be printed
+abbrev pub IsPrintable : CompileReply → Type 0
+IsPrintable (Refused fault) = ⊤
+IsPrintable (Least compiled) = IsConfigOver compiled.net compiled.config
+
+-- The sink took the lines of the report, whose status it is, or a prefix of them.
+abbrev pub EndsBy : Taking → Report → Status → Type 0
+EndsBy sink report ended =
+    ((ended ≡ report.status) × Grows sink.before sink.after (joined report.lines.items))
+    ⊎ (IsBrokenOff sink ended × GrowsByPrefix sink.before sink.after (joined report.lines.items))
+
+-- the same, or there was no memory for a report
+abbrev pub EndsByResult : {E : Type 0} → Taking → Result Report E → Status → Type 0
+EndsByResult sink (Ok report) ended = EndsBy sink report ended
+EndsByResult sink (Err e) ended = LacksMemory sink ended

@@ -1,143 +1,241 @@
-// From the bytes of a policy and a topology to a result.
-ghost use Rattle.std.specs.Prelude.{◌≡◌, [], ℕ, List, IfOk, IfErr, OnOk, IsTrue, ◌↔◌};
-ghost use Rattle.config_text.specs.Lines.{IsOver};
-ghost use Rattle.merlin_model.specs.Assignments.{value_of};
-ghost use Rattle.rules_model.specs.Plain.{any_path_policy};
-ghost use Rattle.merlin.specs.Compile.{every_way, plain_policy, IsPlainPolicy, IsCompiledFrom, Refuses, early_of};
-ghost use Rattle.merlin.specs.declared.compile.EarlyFault.TheVariants as early;
+// The command `compile`.
+ghost use Rattle.std.specs.Prelude.{◌≡◌, ◌≢◌, ◌++◌, ℕ, OnOk, IfOk, IfSome, IfNone, codes};
+ghost use Rattle.std.specs.String.{string_bytes};
+ghost use Rattle.config_text.specs.Words.{line};
+ghost use Rattle.config_text.specs.Result.{value_text, objective_word};
+ghost use Rattle.merlin.specs.Words.{word_texts};
+ghost use Rattle.merlin.specs.Reading.{files_wanted};
+ghost use Rattle.merlin.specs.Compile.{CompileForm, IsBudget, IsCompileForm, compile_form};
+ghost use Rattle.merlin.specs.Compile.{compile_files, Compiles, compiled_lines, compile_lines};
+ghost use Rattle.merlin.specs.Compile.{compile_status, head_lines, leaf_lines};
+ghost use Rattle.merlin.specs.Parts.{IsPrintable, IsCompileReport};
 
-use config_text::Config;
-use merlin_base::OutOfMemory as NoMemory;
+use crate::compiler::{Compiled, EarlyFault, compile_policy};
+use crate::reading::{TEXT_LIMIT, Wanted};
+use crate::refusals::early_fault_text;
+use crate::report::{Report, named_line, push_line};
+use config_text::print;
+use merlin_base::{Name, OutOfMemory, Status, read_decimal};
 use merlin_model::policy::{Objective, Value};
-use plain_compile::configuration_of;
-use policy_parser::{Policy, PolicyFault, RawPath, parse};
 use std::alloc::Global;
-use topology::{NetFault, Topology, read};
 
-/// A network and what its policy compiles to.
-#[derive(Drop)]
-pub struct Compiled {
-    pub net: Topology,
+/// The most nodes of a tree, where the words do not say.
+pub const DEFAULT_BUDGET: u64 = 512;
+
+/// The most nodes of a tree that words may ask for.
+pub const MAX_BUDGET: u64 = 4096;
+
+/// A command to compile two files.
+#[derive(Clone, Copy)]
+pub struct Compile<'a> {
+    pub policy: &'a str,
+    pub topology: &'a str,
     pub objective: Objective,
-    pub value: Value,
-    pub config: Config,
+    pub budget: u64,
 }
 
-/// Why nothing is compiled. `Unbuilt`: the policy asks for what is not built yet.
+/// What is replied to it.
 #[derive(Drop)]
-pub enum EarlyFault {
-    Policy(PolicyFault),
-    Net(NetFault),
-    Unbuilt,
-    OutOfMemory,
+pub enum CompileReply {
+    Refused(EarlyFault),
+    Least(Compiled),
 }
 
-impl From<PolicyFault> for EarlyFault {
-    ghost from_gives = { λ fault gives. gives ≡ early_of fault };
+fn objective_of(word: &str) -> Option<Objective>
+    ensures some { IfSome result (λ objective. word.now ≡ objective_word objective) }
+    ensures none { IfNone result ((objective : _) → word.now ≢ objective_word objective) }
+{
+    match word {
+        "shortest" => Some(Objective::Shortest),
+        "ratio" => Some(Objective::Ratio),
+        "reserved" => Some(Objective::Reserved),
+        _ => None,
+    }
+}
 
-    fn from(fault: PolicyFault) -> Self {
-        match fault {
-            PolicyFault::OutOfMemory => EarlyFault::OutOfMemory,
-            fault => EarlyFault::Policy(fault),
+fn budget_of(rest: &[String]) -> Option<u64>
+    ensures some { IfSome result (IsBudget (word_texts rest.now)) }
+    ensures none { IfNone result ((budget : ℕ) → ¬ IsBudget (word_texts rest.now) budget) }
+{
+    match rest {
+        [] => Some(DEFAULT_BUDGET),
+        [text] => {
+            let budget = read_decimal(text.as_bytes())?;
+            if budget < 1 || budget > MAX_BUDGET {
+                return None;
+            }
+            Some(budget)
+        }
+        _ => None,
+    }
+}
+
+/// The command to compile that the words are, if they are one.
+pub fn compile_of(words: &[String]) -> Option<Compile<'_>>
+    ensures some { IfSome result (λ command.
+        IsCompileForm (word_texts words.now) (compile_form command)) }
+    ensures none { IfNone result ((form : CompileForm) →
+        ¬ IsCompileForm (word_texts words.now) form) }
+{
+    let [command, policy, topology, objective, rest @ ..] = words else {
+        return None;
+    };
+    if command.as_str() != "compile" {
+        return None;
+    }
+    let objective = objective_of(objective.as_str())?;
+    let budget = budget_of(rest)?;
+    Some(Compile {
+        policy: policy.as_str(),
+        topology: topology.as_str(),
+        objective,
+        budget,
+    })
+}
+
+/// Its files.
+pub fn files_to_compile<'a>(command: Compile<'a>) -> [Wanted<'a>; 2]
+    ensures { files_wanted result ≡ compile_files (compile_form command.entry) }
+{
+    [
+        Wanted {
+            name: command.policy,
+            limit: TEXT_LIMIT,
+        },
+        Wanted {
+            name: command.topology,
+            limit: TEXT_LIMIT,
+        },
+    ]
+}
+
+// What is replied to a policy and a topology.
+fn compile_reply(
+    alloc: Global,
+    command: Compile,
+    policy: &[u8],
+    topology: &[u8],
+) -> Result<CompileReply, OutOfMemory>
+    ensures reply { IfOk result (Compiles (compile_form command.entry) policy.now topology.now) }
+    ensures printable { IfOk result IsPrintable }
+{
+    match compile_policy(alloc, policy, topology, command.objective) {
+        Ok(compiled) => Ok(CompileReply::Least(compiled)),
+        Err(fault) => {
+            if fault.is_want_of_memory() {
+                return Err(OutOfMemory);
+            }
+            Ok(CompileReply::Refused(fault))
         }
     }
 }
 
-impl From<NetFault> for EarlyFault {
-    ghost from_gives = { λ fault gives. gives ≡ early.Net fault };
-
-    fn from(fault: NetFault) -> Self {
-        EarlyFault::Net(fault)
-    }
-}
-
-impl From<NoMemory> for EarlyFault {
-    ghost from_gives = { λ _ gives. gives ≡ early.OutOfMemory };
-
-    fn from(_: NoMemory) -> Self {
-        EarlyFault::OutOfMemory
-    }
-}
-
-// Whether a path is `.*`.
-fn is_every_way(path: &RawPath) -> bool
-    ensures { IsTrue result ↔ (path.now ≡ every_way) }
-{
-    match path {
-        RawPath::Star(inner) => matches!(inner.get(), RawPath::Dot),
-        _ => false,
-    }
-}
-
-// Whether the policy is the one that is built.
-fn is_plain(policy: &Policy) -> bool
-    ensures { IsTrue result ↔ (policy.now ≡ plain_policy) }
-{
-    let is_every_way = match &policy.default_path {
-        Some(path) => is_every_way(path),
-        None => false,
-    };
-    is_every_way && policy.statements.is_empty() && policy.formula.terms.is_empty()
-}
-
-// Reads the policy that is built.
-fn read_plain(alloc: Global, text: &[u8]) -> Result<(), EarlyFault>
-    ensures ok { OnOk result (IsPlainPolicy text.now) }
-    ensures err { IfErr result (λ fault. (topology : List ℕ) → Refuses fault text.now topology) }
-{
-    let policy = parse(alloc, text)?;
-    if is_plain(&policy) {
-        Ok(())
-    } else {
-        Err(EarlyFault::Unbuilt)
-    }
-}
-
-// No load of the capacity of the first link, or of 1 without links.
-fn empty_ratio(net: &Topology) -> Value
-    ensures { result ≡ value_of net.now any_path_policy [] Objective.Ratio [] }
-{
-    let capacity = match net.links() {
-        [first, ..] => first.capacity,
-        [] => 1,
-    };
-    Value::Ratio { load: 0, capacity }
-}
-
-// The value where nothing is reserved.
-fn empty_value(net: &Topology, objective: Objective) -> Value
-    ensures { result ≡ value_of net.now any_path_policy [] objective [] }
+fn objective_name(objective: Objective) -> &'static str
+    ensures { result.now ≡ objective_word objective }
 {
     match objective {
-        Objective::Shortest => Value::Whole(0),
-        Objective::Ratio => empty_ratio(net),
-        Objective::Reserved => Value::Whole(0),
+        Objective::Shortest => "shortest",
+        Objective::Ratio => "ratio",
+        Objective::Reserved => "reserved",
     }
 }
 
-/// What the policy compiles to over the topology, for an objective.
-///
-/// # Errors
-/// The first of: what `parse` says of the policy; `Unbuilt` where it has a statement, a term, no default or one that does not allow every
-/// way; what `read` says of the topology.
-pub fn compile_policy(
+fn objective_text(alloc: Global, objective: Objective, value: Value) -> Result<String, OutOfMemory>
+    ensures { IfOk result (λ text. string_bytes text ≡
+        codes "objective " ++ (objective_word objective ++ (codes " " ++ value_text value))) }
+{
+    let objective = objective_name(objective);
+    match value {
+        Value::Whole(number) => Ok(format!(in alloc; "objective {objective} {number}")?),
+        Value::Ratio { load, capacity } => {
+            Ok(format!(in alloc; "objective {objective} {load}/{capacity}")?)
+        }
+    }
+}
+
+// The first lines of a result.
+fn result_head(alloc: Global, objective: Objective, value: Value) -> Result<Vec<Name>, OutOfMemory>
+    ensures { IfOk result (λ lines. lines.items ≡ head_lines objective value) }
+{
+    let text = objective_text(alloc, objective, value)?;
+    let mut lines = Vec::new(alloc);
+    push_line(alloc, &mut lines, "merlin 2 ok")?;
+    push_line(alloc, &mut lines, &text)?;
+    Ok(lines)
+}
+
+// Adds the certificate of one leaf on the row after those of the directed links.
+fn push_certificate(alloc: Global, lines: &mut Vec<Name>, rows: usize) -> Result<(), OutOfMemory>
+    ensures { OnOk result (lines.new.items ≡ lines.old.items ++ leaf_lines rows) }
+{
+    let weight = 1u64;
+    let leaf = format!(in alloc; "leaf {rows}:{weight}")?;
+    push_line(alloc, lines, "tree")?;
+    push_line(alloc, lines, &leaf)?;
+    push_line(alloc, lines, "end")
+}
+
+// The lines of a result: the head, the configuration and the certificate.
+fn result_of(alloc: Global, compiled: &Compiled) -> Result<Vec<Name>, OutOfMemory>
+    requires { IsPrintable (CompileReply.Least compiled.now) }
+    ensures { IfOk result (λ lines. lines.items ≡ compiled_lines compiled.now) }
+{
+    let rows = 2 * compiled.net.links().len();
+    let mut lines = result_head(alloc, compiled.objective, compiled.value)?;
+    lines.append(&mut print(alloc, &compiled.config, &compiled.net)?)?;
+    push_certificate(alloc, &mut lines, rows)?;
+    Ok(lines)
+}
+
+fn refused_lines(alloc: Global, fault: &EarlyFault) -> Result<Vec<Name>, OutOfMemory>
+    ensures { IfOk result (λ lines. lines.items ≡ compile_lines (CompileReply.Refused fault.now)) }
+{
+    let text = early_fault_text(alloc, fault)?;
+    named_line(alloc, "refused: ", &text)
+}
+
+fn lines_of(alloc: Global, reply: &CompileReply) -> Result<Vec<Name>, OutOfMemory>
+    requires { IsPrintable reply.now }
+    ensures { IfOk result (λ lines. lines.items ≡ compile_lines reply.now) }
+{
+    match reply {
+        CompileReply::Refused(fault) => refused_lines(alloc, fault),
+        CompileReply::Least(compiled) => result_of(alloc, compiled),
+    }
+}
+
+fn status_of(reply: &CompileReply) -> Status
+    ensures { result ≡ compile_status reply.now }
+{
+    match reply {
+        CompileReply::Refused(_) => Status::Refused,
+        CompileReply::Least(_) => Status::Done,
+    }
+}
+
+fn report_on(alloc: Global, reply: &CompileReply) -> Result<Report, OutOfMemory>
+    requires { IsPrintable reply.now }
+    ensures lines { IfOk result (λ report. report.lines.items ≡ compile_lines reply.now) }
+    ensures status { IfOk result (λ report. report.status ≡ compile_status reply.now) }
+{
+    let lines = lines_of(alloc, reply)?;
+    Ok(Report {
+        lines,
+        status: status_of(reply),
+    })
+}
+
+/// What is reported of a policy and a topology.
+pub fn compile_report(
     alloc: Global,
+    command: Compile,
     policy: &[u8],
     topology: &[u8],
-    objective: Objective,
-) -> Result<Compiled, EarlyFault>
-    ensures ok { IfOk result (IsCompiledFrom policy.now topology.now objective) }
-    ensures err { IfErr result (λ fault. Refuses fault policy.now topology.now) }
-    ensures over { IfOk result (λ compiled. IsOver compiled.net compiled.config) }
+) -> Result<Report, OutOfMemory>
+    ensures { IfOk result (IsCompileReport (compile_form command.entry) policy.now topology.now) }
 {
-    read_plain(alloc, policy)?;
-    let net = read(alloc, topology)?;
-    let value = empty_value(&net, objective);
-    let config = configuration_of(alloc, &net)?;
-    Ok(Compiled {
-        net,
-        objective,
-        value,
-        config,
-    })
+    match compile_reply(alloc, command, policy, topology) {
+        Ok(reply) => report_on(alloc, &reply),
+        Err(OutOfMemory) => Err(OutOfMemory),
+    }
 }

@@ -1,15 +1,19 @@
 //! The program as one call: from the words of a command over files to lines on a sink.
 #![tactic(auto)]
 
-mod answer;
-mod answering;
-mod command;
+mod commands;
 mod compile;
+mod compiler;
+pub mod laws;
 mod program;
 mod reading;
+mod refusals;
 mod refute;
 mod report;
 
-pub use compile::{Compiled, EarlyFault, compile_policy};
+pub use compile::{DEFAULT_BUDGET, MAX_BUDGET};
+pub use compiler::{Compiled, EarlyFault, compile_policy};
 pub use packet_trace::{End, Trace, Visit, trace_plain};
 pub use program::run;
+pub use reading::TEXT_LIMIT;
+pub use refute::TREE_LIMIT;

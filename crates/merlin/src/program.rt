@@ -1,21 +1,63 @@
 // A run of the program.
-ghost use Rattle.std.specs.Prelude.{◌≡◌, ◌⊎◌};
-ghost use Rattle.merlin_base.specs.Outside.{Rose};
-ghost use Rattle.merlin.specs.Command.{texts, IsNoForm};
-ghost use Rattle.merlin.specs.Answer.{RoseForAFile};
-ghost use Rattle.merlin.specs.Outcome.{IsOutcome, IsDone, IsFailed, EndsAs, IsAccepted, IsShort, IsRefused, IsTooLong};
+ghost use Rattle.std.specs.Prelude.{◌≡◌, IfOk};
+ghost use Rattle.merlin.specs.Words.{word_texts};
+ghost use Rattle.merlin.specs.Outcome.{IsOutcome, SaysByStatus, behaviour_by, world_of, taking_of};
+ghost use Rattle.merlin.specs.Parts.{IsReportTo, EndsByResult};
+ghost use Rattle.merlin.specs.Runs.{KeepsPromises};
 
-use crate::answering::answer_to;
-use crate::report::{lines_of, status_of};
-use merlin_base::{Files, OutsideFault, Sink, Status, write_lines};
+use crate::commands::{command_of, contents_for, report_over};
+use crate::report::{Report, unread_report, usage_report};
+use merlin_base::{Files, OutOfMemory, OutsideFault, Sink, Status, write_lines};
 use packet_model::Packet;
 use std::alloc::Global;
 use topology::FnDecl;
 
-/// Runs the command that the words are, without the program's name, over these files, and hands its lines to the sink.
+// What is reported of the command that the words are.
+fn report_to<F: Files, A: Fn(&FnDecl, Packet) -> Packet + Drop>(
+    alloc: Global,
+    words: &[String],
+    files: &mut F,
+    apply: A,
+) -> Result<Report, OutOfMemory>
+    requires callable { A.IsAlwaysCallable apply }
+    ensures { let world = world_of (F.contents files.old)
+        (F.faults files.old) (F.faults files.new) (behaviour_by (A.post apply) (λ d. d.now)) in
+        IfOk result (IsReportTo world (word_texts words.now)) }
+{
+    let Some(command) = command_of(words) else {
+        return usage_report(alloc);
+    };
+    match contents_for(alloc, files, command) {
+        Ok(contents) => report_over(alloc, command, &contents, apply),
+        Err(unread) => unread_report(alloc, &unread),
+    }
+}
+
+// Hands the lines of a report to the sink. It answers how the run ends.
+fn hand_over<K: Sink>(out: &mut K, report: &Result<Report, OutOfMemory>) -> Status
+    ensures { let sink = taking_of (K.faults out.old) (K.faults out.new)
+        (K.taken out.old) (K.taken out.new) in
+        EndsByResult sink report.now result }
+{
+    let Ok(report) = report else {
+        return Status::Memory;
+    };
+    match write_lines(out, &report.lines) {
+        Ok(()) => report.status,
+        Err(OutsideFault::Failed) => Status::WriteFault,
+        Err(OutsideFault::OutOfMemory) => Status::Memory,
+    }
+}
+
+/// Runs the command that the words are, without the program's name, over these files, and hands its
+/// lines to the sink.
 ///
-/// `apply` says what a packet function leaves of a packet. It may be called on everything and keeps the destination Ethernet address.
-/// Until there are packet functions it is not called.
+/// `apply` says what a packet function leaves of a packet. It may be called on everything and keeps
+/// the destination Ethernet address. Until there are packet functions it is not called.
+///
+/// `outcome` has an answer with its cause for each run. `says` and `promises` are what follows from
+/// it: what each status says of the words, of the files and of the bytes that the sink took, and what
+/// a reader asks of each command.
 pub fn run<F: Files, K: Sink, A: Fn(&FnDecl, Packet) -> Packet + Drop>(
     alloc: Global,
     words: &[String],
@@ -24,34 +66,24 @@ pub fn run<F: Files, K: Sink, A: Fn(&FnDecl, Packet) -> Packet + Drop>(
     apply: A,
 ) -> Status
     requires callable { A.IsAlwaysCallable apply }
-    requires keeps { (decl : _) (packet changed : _) → A.post apply decl packet changed → changed.eth_dst ≡ packet.eth_dst }
-    ensures outcome { IsOutcome (F.contents files.old) (texts words.now) result (K.taken out.old) (K.taken out.new) }
-
-    ensures usage { result ≡ Status.Usage → IsNoForm (texts words.now) }
-    ensures usage_given { IsNoForm (texts words.now) → EndsAs result Status.Usage }
-    ensures too_long_given { IsTooLong (F.contents files.old) (texts words.now) → (result ≡ Status.ReadFault) ⊎ EndsAs result Status.Refused }
-    ensures refused_given { IsRefused (F.contents files.old) (texts words.now) → (result ≡ Status.ReadFault) ⊎ EndsAs result Status.Refused }
-
-    // With Done a result was written, whose configuration delivers packets as promised, or a program was refuted, which has no solution.
-    ensures done { result ≡ Status.Done → IsDone (F.contents files.old) (texts words.now) (K.taken out.old) (K.taken out.new) }
-    ensures complete { IsAccepted (F.contents files.old) (texts words.now) → (result ≡ Status.ReadFault) ⊎ EndsAs result Status.Done }
-
-    // With CheckNo the first node of a tree that fails was named.
-    ensures check_no { result ≡ Status.CheckNo → IsFailed (F.contents files.old) (texts words.now) (K.taken out.old) (K.taken out.new) }
-    ensures check_no_given { IsShort (F.contents files.old) (texts words.now) → (result ≡ Status.ReadFault) ⊎ EndsAs result Status.CheckNo }
-
-    ensures read_fault { result ≡ Status.ReadFault → RoseForAFile (texts words.now) (F.faults files.old) (F.faults files.new) }
-    ensures write_fault { result ≡ Status.WriteFault → Rose (K.faults out.old) (K.faults out.new) }
+    requires keeps { (decl : _) (packet changed : _) →
+        A.post apply decl packet changed → changed.eth_dst ≡ packet.eth_dst }
+    ensures outcome { let world = world_of (F.contents files.old)
+        (F.faults files.old) (F.faults files.new) (behaviour_by (A.post apply) (λ d. d.now)) in
+        let sink = taking_of (K.faults out.old) (K.faults out.new)
+        (K.taken out.old) (K.taken out.new) in
+        IsOutcome world sink (word_texts words.now) result }
+    ensures says { let world = world_of (F.contents files.old)
+        (F.faults files.old) (F.faults files.new) (behaviour_by (A.post apply) (λ d. d.now)) in
+        let sink = taking_of (K.faults out.old) (K.faults out.new)
+        (K.taken out.old) (K.taken out.new) in
+        SaysByStatus world sink (word_texts words.now) result }
+    ensures promises { let world = world_of (F.contents files.old)
+        (F.faults files.old) (F.faults files.new) (behaviour_by (A.post apply) (λ d. d.now)) in
+        let sink = taking_of (K.faults out.old) (K.faults out.new)
+        (K.taken out.old) (K.taken out.new) in
+        KeepsPromises world sink (word_texts words.now) result }
 {
-    let Ok(answer) = answer_to(alloc, words, files) else {
-        return Status::Memory;
-    };
-    let Ok(lines) = lines_of(alloc, &answer) else {
-        return Status::Memory;
-    };
-    match write_lines(out, &lines) {
-        Ok(()) => status_of(&answer),
-        Err(OutsideFault::Failed) => Status::WriteFault,
-        Err(OutsideFault::OutOfMemory) => Status::Memory,
-    }
+    let report = report_to(alloc, words, files, apply);
+    hand_over(out, &report)
 }

@@ -1,11 +1,14 @@
 // The files of a command, read in the order of its words.
 ghost use Rattle.std.specs.Prelude.{◌≡◌, ◌∷◌, [], IfOk, IfErr};
 ghost use Rattle.merlin_base.specs.Outside.{NoneFalls};
-ghost use Rattle.merlin.specs.Reading.{AreContents};
-ghost use Rattle.merlin.specs.Parts.{IsReason, IsUnread};
+ghost use Rattle.merlin.specs.declared.reading.Unread.TheVariants as unread;
+ghost use Rattle.merlin.specs.Reading.{AreContents, IsReason, IsUnread, files_wanted, texts_read};
 
 use merlin_base::{Files, Name, ReadFail, name_from, read_all};
-use std::alloc::Global;
+use std::alloc::{AllocFailed, Global};
+
+/// The most bytes of a policy, a topology, a result or a program.
+pub const TEXT_LIMIT: usize = 16_777_216;
 
 /// A file that a command names, and the most bytes that it may have.
 #[derive(Clone, Copy)]
@@ -20,6 +23,14 @@ pub enum Unread {
     Fault,
     TooLong(Name),
     OutOfMemory,
+}
+
+impl<T: Drop> From<AllocFailed<T>> for Unread {
+    ghost from_gives = { λ _ gives. gives ≡ unread.OutOfMemory };
+
+    fn from(_: AllocFailed<T>) -> Self {
+        Unread::OutOfMemory
+    }
 }
 
 // Why a file of this name was not read.
@@ -37,29 +48,43 @@ fn why_unread(alloc: Global, name: &str, fail: ReadFail) -> Unread
 }
 
 // What a file holds.
-fn read_one<F: Files>(alloc: Global, files: &mut F, file: Wanted) -> Result<Vec<u8>, Unread>
+fn read_one<F: Files>(
+    alloc: Global,
+    files: &mut F,
+    name: &str,
+    limit: usize,
+) -> Result<Vec<u8>, Unread>
     ensures contents { F.contents files.new ≡ F.contents files.old }
     ensures later { NoneFalls (F.faults files.old) (F.faults files.new) }
-    ensures ok { IfOk result (λ bytes. AreContents (F.contents files.old) ((file.entry.name.now, file.entry.limit) ∷ []) (bytes.items ∷ [])) }
-    ensures err { IfErr result (IsUnread (F.contents files.old) ((file.entry.name.now, file.entry.limit) ∷ []) (F.faults files.old) (F.faults files.new)) }
+    ensures ok { IfOk result (λ bytes.
+        AreContents (F.contents files.old) ((name.now, limit) ∷ []) (bytes.items ∷ [])) }
+    ensures err { let wanted = (name.now, limit) ∷ [] in
+        IfErr result (IsUnread (F.contents files.old) wanted
+        (F.faults files.old) (F.faults files.new)) }
 {
-    match read_all(alloc, files, file.name, file.limit) {
+    match read_all(alloc, files, name, limit) {
         Ok(bytes) => Ok(bytes),
-        Err(fail) => Err(why_unread(alloc, file.name, fail)),
+        Err(fail) => Err(why_unread(alloc, name, fail)),
     }
 }
 
-/// What two files hold, read one after the other.
-pub fn read_two<F: Files>(
+/// What the files hold, read one after the other.
+pub fn read_files<F: Files>(
     alloc: Global,
     files: &mut F,
-    first: Wanted,
-    second: Wanted,
-) -> Result<(Vec<u8>, Vec<u8>), Unread>
-    ensures ok { IfOk result (λ both. AreContents (F.contents files.old) ((first.entry.name.now, first.entry.limit) ∷ (second.entry.name.now, second.entry.limit) ∷ []) (both.0.items ∷ both.1.items ∷ [])) }
-    ensures err { IfErr result (IsUnread (F.contents files.old) ((first.entry.name.now, first.entry.limit) ∷ (second.entry.name.now, second.entry.limit) ∷ []) (F.faults files.old) (F.faults files.new)) }
+    wanted: &[Wanted],
+) -> Result<Vec<Vec<u8>>, Unread>
+    ensures ok { IfOk result (λ contents.
+        AreContents (F.contents files.old) (files_wanted wanted.now) (texts_read contents.items)) }
+    ensures err { let named = files_wanted wanted.now in
+        IfErr result (IsUnread (F.contents files.old) named
+        (F.faults files.old) (F.faults files.new)) }
 {
-    let first = read_one(alloc, files, first)?;
-    let second = read_one(alloc, files, second)?;
-    Ok((first, second))
+    let mut contents = Vec::new(alloc);
+    for file in wanted {
+        let Wanted { name, limit } = *file;
+        let text = read_one(alloc, files, name, limit)?;
+        contents.push(text)?;
+    }
+    Ok(contents)
 }

@@ -1,31 +1,121 @@
-// From the bytes of a program and a tree to an answer.
-ghost use Rattle.std.specs.Prelude.{IfOk};
-ghost use Rattle.merlin.specs.Answer.{Checks};
+// The command `refute`.
+ghost use Rattle.std.specs.Prelude.{◌≡◌, IfOk, IfSome, IfNone};
+ghost use Rattle.merlin.specs.Words.{word_texts};
+ghost use Rattle.merlin.specs.Reading.{files_wanted};
+ghost use Rattle.merlin.specs.Refute.{RefuteForm, IsRefuteForm, refute_form, refute_files};
+ghost use Rattle.merlin.specs.Refute.{Checks, refute_lines, refute_status};
+ghost use Rattle.merlin.specs.Parts.{IsRefuteReport};
 
-use crate::answer::{Answer, Refusal};
+use crate::reading::{TEXT_LIMIT, Wanted};
+use crate::report::{Report, numbered_line, one_line};
 use certificate_text::{ProgramTextFault, TreeTextFault, read_program, read_tree};
-use merlin_base::OutOfMemory;
+use merlin_base::{Name, OutOfMemory, Status};
 use std::alloc::Global;
 
-/// What is answered to a program and a tree.
-pub fn check_tree(alloc: Global, program: &[u8], tree: &[u8]) -> Result<Answer, OutOfMemory>
+/// The most bytes of a tree.
+pub const TREE_LIMIT: usize = 1_610_612_736;
+
+/// A command to check a tree against a program.
+#[derive(Clone, Copy)]
+pub struct Refute<'a> {
+    pub program: &'a str,
+    pub tree: &'a str,
+}
+
+/// What is replied to it. `NotRefuted` has the first node that fails.
+#[derive(Clone, Copy)]
+pub enum RefuteReply {
+    BadProgram(usize),
+    BadTree(usize),
+    Refuted,
+    NotRefuted(usize),
+}
+
+/// The command to check a tree that the words are, if they are one.
+pub fn refute_of(words: &[String]) -> Option<Refute<'_>>
+    ensures some { IfSome result (λ command.
+        IsRefuteForm (word_texts words.now) (refute_form command)) }
+    ensures none { IfNone result ((form : RefuteForm) →
+        ¬ IsRefuteForm (word_texts words.now) form) }
+{
+    let [command, program, tree] = words else {
+        return None;
+    };
+    if command.as_str() != "refute" {
+        return None;
+    }
+    Some(Refute {
+        program: program.as_str(),
+        tree: tree.as_str(),
+    })
+}
+
+/// Its files.
+pub fn files_to_refute<'a>(command: Refute<'a>) -> [Wanted<'a>; 2]
+    ensures { files_wanted result ≡ refute_files (refute_form command.entry) }
+{
+    [
+        Wanted {
+            name: command.program,
+            limit: TEXT_LIMIT,
+        },
+        Wanted {
+            name: command.tree,
+            limit: TREE_LIMIT,
+        },
+    ]
+}
+
+// What is replied to a program and a tree.
+fn refute_reply(alloc: Global, program: &[u8], tree: &[u8]) -> Result<RefuteReply, OutOfMemory>
     ensures { IfOk result (Checks program.now tree.now) }
 {
     let program = match read_program(alloc, program) {
         Ok(program) => program,
-        Err(ProgramTextFault::BadProgram { at }) => {
-            return Ok(Answer::Refused(Refusal::BadProgram(at)));
-        }
+        Err(ProgramTextFault::BadProgram { at }) => return Ok(RefuteReply::BadProgram(at)),
         Err(ProgramTextFault::OutOfMemory) => return Err(OutOfMemory),
     };
     let tree = match read_tree(alloc, tree) {
         Ok(tree) => tree,
-        Err(TreeTextFault::BadTree { at }) => return Ok(Answer::Refused(Refusal::BadTree(at))),
+        Err(TreeTextFault::BadTree { at }) => return Ok(RefuteReply::BadTree(at)),
         Err(TreeTextFault::OutOfMemory) => return Err(OutOfMemory),
     };
     let mut checker = certificate::new(alloc, &program)?;
     match checker.refutes(&tree, None) {
-        Ok(()) => Ok(Answer::Refuted),
-        Err(fault) => Ok(Answer::NotRefuted(fault.node)),
+        Ok(()) => Ok(RefuteReply::Refuted),
+        Err(fault) => Ok(RefuteReply::NotRefuted(fault.node)),
     }
+}
+
+fn lines_of(alloc: Global, reply: RefuteReply) -> Result<Vec<Name>, OutOfMemory>
+    ensures { IfOk result (λ lines. lines.items ≡ refute_lines reply) }
+{
+    match reply {
+        RefuteReply::BadProgram(at) => numbered_line(alloc, "refused: program at ", at),
+        RefuteReply::BadTree(at) => numbered_line(alloc, "refused: tree at ", at),
+        RefuteReply::Refuted => one_line(alloc, "refuted"),
+        RefuteReply::NotRefuted(node) => numbered_line(alloc, "no ", node),
+    }
+}
+
+fn status_of(reply: RefuteReply) -> Status
+    ensures { result ≡ refute_status reply }
+{
+    match reply {
+        RefuteReply::BadProgram(_) | RefuteReply::BadTree(_) => Status::Refused,
+        RefuteReply::Refuted => Status::Done,
+        RefuteReply::NotRefuted(_) => Status::CheckNo,
+    }
+}
+
+/// What is reported of a program and a tree.
+pub fn refute_report(alloc: Global, program: &[u8], tree: &[u8]) -> Result<Report, OutOfMemory>
+    ensures { IfOk result (IsRefuteReport program.now tree.now) }
+{
+    let reply = refute_reply(alloc, program, tree)?;
+    let lines = lines_of(alloc, reply)?;
+    Ok(Report {
+        lines,
+        status: status_of(reply),
+    })
 }

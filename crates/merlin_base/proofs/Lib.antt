@@ -6,3 +6,14 @@ pub mod Parts
 pub mod Octets
 pub mod Rates
 pub mod Unique
+pub mod Cutting
+pub mod Decimals
+pub mod PairTexts
+pub mod NodeLines
+pub mod NodeTexts
+pub mod WrongLines
+pub mod Skipping
+pub mod LineSkips
+pub mod TreeSkips
+pub mod WholeSkips
+pub mod Passing

@@ -9,7 +9,7 @@ LacksAll : ℕ → List ℕ → Type 0
 LacksAll byte = AllByRecursion (λ other. other ≢ byte)
 
 -- two fronts without the byte
-same_front : (byte : ℕ) (f g r s : List ℕ) → AllByRecursion (λ other. other ≢ byte) f → AllByRecursion (λ other. other ≢ byte) g → f ++ byte ∷ r ≡ g ++ byte ∷ s → (f ≡ g) × (r ≡ s)
+pub same_front : (byte : ℕ) (f g r s : List ℕ) → AllByRecursion (λ other. other ≢ byte) f → AllByRecursion (λ other. other ≢ byte) g → f ++ byte ∷ r ≡ g ++ byte ∷ s → (f ≡ g) × (r ≡ s)
 same_front byte [] [] r s p q e = (refl, cc)
 same_front byte [] (c ∷ g) r s p q e = absurd (let same : c ≡ byte = cc in q.0 same)
 same_front byte (c ∷ f) [] r s p q e = absurd (let same : c ≡ byte = cc in p.0 same)

@@ -82,12 +82,17 @@ unit_lacks text factor known =
     ((λ e. omega arith), ((λ e. omega arith), ((λ e. omega arith), ((λ e. omega arith), tt))))
     text factor known
 
+-- a rate has no dot
+pub rate_lacks : (text : List ℕ) (rate : ℕ) → IsRate text rate → AllByRecursion (λ (other : ℕ). other ≢ 46) text
+rate_lacks text rate is =
+    subst (AllByRecursion (λ (other : ℕ). other ≢ 46)) (sym is.whole)
+    (append_lacks is.number is.unit (digits_lack is.number (recursion_from_All IsDigit is.number is.decimal.digits)) (unit_lacks is.unit is.factor is.known))
+
 pub rate_no_ip : (text : List ℕ) (rate ip : ℕ) → IsRate text rate → IsIp text ip → ⊥
 rate_no_ip text rate ip is ([], four, joined, value) = joined
 rate_no_ip text rate ip is (a ∷ [], four, joined, value) = absurd (omega arith)
 rate_no_ip text rate ip is (a ∷ b ∷ ns, four, (rest, (first, octet, split), joined), value) =
-    no_place 46 first rest (subst (AllByRecursion (λ (other : ℕ). other ≢ 46)) (sym is.whole ∙ split)
-    (append_lacks is.number is.unit (digits_lack is.number (recursion_from_All IsDigit is.number is.decimal.digits)) (unit_lacks is.unit is.factor is.known)))
+    no_place 46 first rest (subst (AllByRecursion (λ (other : ℕ). other ≢ 46)) split (rate_lacks text rate is))
 
 back_digits : (f g : List ℕ) → AllByRecursion IsDigit (f ++ g) → AllByRecursion IsDigit g
 back_digits [] g p = p

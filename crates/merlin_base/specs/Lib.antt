@@ -6,3 +6,7 @@ pub mod Status
 pub mod Fails
 pub mod Lexemes
 pub mod Addresses
+pub mod Pairs
+pub mod Faults
+pub mod NodeTexts
+pub mod Skipping

@@ -1,34 +1,44 @@
 -- What calls on files and on a sink do to the faults, the contents and the bytes that are told.
-use Rattle.std.specs.Prelude.{◌≡◌, ◌+◌, ◌-◌, ◌^◌, ◌<◌, ◌≤◌, ℕ, List, ◌++◌, length, min, take, ⊤, Option, None, Some, Result, Err, IfOk, IfSome}
+use Rattle.std.specs.Prelude.{◌≡◌, ◌+◌, ◌-◌, ◌^◌, ◌<◌, ◌≤◌, ℕ, List, ◌++◌, length, min, take, ⊤, Option, None, Some, Result, Err, OnOk, OnErr, IfOk, IfSome}
 use Rattle.std.specs.Io.KnownBytes.{Consumes, IsAtEnd}
 use Rattle.merlin_base.specs.declared.outside.OutsideFault.{OutsideFault}
-use Rattle.merlin_base.specs.declared.outside.OutsideFault.TheVariants.{Failed}
+use Rattle.merlin_base.specs.declared.outside.OutsideFault.TheVariants.{Failed, OutOfMemory}
 
 -- a count has risen, or stands at the end of its type
 abbrev pub Rose : ℕ → ℕ → Type 0
 Rose before now = min (before + 1) (2 ^ 64 - 1) ≤ now
 
+-- The count rises at an error, unless it stands at its end, and only then. Want of memory is no answer.
+pub record CountsFault {T : Type 0} (before now : ℕ) (result : Result T OutsideFault) : Type 0 where
+  pub ok : OnOk result (now ≡ before)
+  pub err : OnErr result (now ≡ min (before + 1) (2 ^ 64 - 1))
+  pub memory : ¬ (result ≡ Err OutOfMemory)
+
 -- Contents by name, where an object tells them. A name that the object lacks has none.
-abbrev pub Told : Type 0
-Told = Option (List ℕ → Option (List ℕ))
+abbrev pub KnownContents : Type 0
+KnownContents = Option (List ℕ → Option (List ℕ))
 
 -- The file of this name is these bytes and then the unread rest, where contents are told.
-abbrev pub IsReadUpTo : Told → Option (List ℕ) → List ℕ → List ℕ → Type 0
+abbrev pub IsReadUpTo : KnownContents → Option (List ℕ) → List ℕ → List ℕ → Type 0
 IsReadUpTo None rest name done = ⊤
 IsReadUpTo (Some contents) None name done = ⊥
 IsReadUpTo (Some contents) (Some xs) name done = contents name ≡ Some (done ++ xs)
 
 -- These bytes are the whole file, where contents are told.
-abbrev pub IsFile : Told → List ℕ → List ℕ → Type 0
-IsFile told name bytes = IfSome told (λ contents. contents name ≡ Some bytes)
+abbrev pub IsFile : KnownContents → List ℕ → List ℕ → Type 0
+IsFile known name bytes = IfSome known (λ contents. contents name ≡ Some bytes)
 
 -- The file is longer than this, where contents are told.
-abbrev pub IsLongerThan : Told → List ℕ → ℕ → Type 0
-IsLongerThan told name limit = IfSome told (λ contents. (bytes : List ℕ) × (contents name ≡ Some bytes) × (limit < length bytes))
+abbrev pub IsLongerThan : KnownContents → List ℕ → ℕ → Type 0
+IsLongerThan known name limit = IfSome known (λ contents. (bytes : List ℕ) × (contents name ≡ Some bytes) × (limit < length bytes))
 
 -- No count falls.
 abbrev pub NoneFalls : (List ℕ → ℕ) → (List ℕ → ℕ) → Type 0
 NoneFalls before now = (name : List ℕ) → before name ≤ now name
+
+-- Each count has risen.
+abbrev pub EachRose : (List ℕ → ℕ) → (List ℕ → ℕ) → Type 0
+EachRose before now = (name : List ℕ) → Rose (before name) (now name)
 
 -- Failed is answered only where the fact holds.
 abbrev pub FailsOnlyIf : {T : Type 0} → Result T OutsideFault → Type 0 → Type 0

@@ -91,7 +91,7 @@ pub fn is_name(text: &[u8]) -> bool
     text.len() <= 32 && is_identifier(text) && !is_word(text)
 }
 
-fn hex_digit(byte: u8) -> Option<u8>
+fn hex_digit_value(byte: u8) -> Option<u8>
     ensures some { IfSome result (IsHexDigit byte) }
     ensures none { IfNone result ((value : ℕ) → IsHexDigit byte value → ⊥) }
 {
@@ -103,14 +103,14 @@ fn hex_digit(byte: u8) -> Option<u8>
     }
 }
 
-fn hex_pair(text: &[u8]) -> Option<u8>
+fn hex_pair_value(text: &[u8]) -> Option<u8>
     ensures some { IfSome result (IsHexPair text.now) }
     ensures none { IfNone result ((n : ℕ) → IsHexPair text.now n → ⊥) }
 {
     match text {
         [a, b] => {
-            let high = hex_digit(*a)?;
-            let low = hex_digit(*b)?;
+            let high = hex_digit_value(*a)?;
+            let low = hex_digit_value(*b)?;
             Some(16 * high + low)
         }
         _ => None,
@@ -120,11 +120,12 @@ fn hex_pair(text: &[u8]) -> Option<u8>
 // A pair, a colon and the rest.
 fn pair_then(text: &[u8]) -> Option<(u8, &[u8])>
     ensures some { IfSome result (λ r. IsThen IsHexPair 58 text.now r.0 r.1.now) }
-    ensures none { IfNone result ((n : ℕ) (rest : List ℕ) → IsThen IsHexPair 58 text.now n rest → ⊥) }
+    ensures none { IfNone result ((n : ℕ) (rest : List ℕ) →
+        IsThen IsHexPair 58 text.now n rest → ⊥) }
 {
     match text {
         [_, _, b':', rest @ ..] => {
-            let pair = hex_pair(&text[..2])?;
+            let pair = hex_pair_value(&text[..2])?;
             Some((pair, rest))
         }
         _ => None,
@@ -141,7 +142,7 @@ pub fn mac_value(text: &[u8]) -> Option<u64>
     let (c, rest) = pair_then(rest)?;
     let (d, rest) = pair_then(rest)?;
     let (e, rest) = pair_then(rest)?;
-    let f = hex_pair(rest)?;
+    let f = hex_pair_value(rest)?;
     let high = 65536 * u64::from(a) + 256 * u64::from(b) + u64::from(c);
     let low = 65536 * u64::from(d) + 256 * u64::from(e) + u64::from(f);
     Some(16_777_216 * high + low)
@@ -155,9 +156,10 @@ fn octet(text: &[u8]) -> Option<u8>
     u8::try_from(number).ok()
 }
 
-// What stands before the first such byte, and what stands after it.
-fn split_at_byte(text: &[u8], byte: u8) -> Option<(&[u8], &[u8])>
-    ensures some { IfSome result (λ r. (text.now ≡ r.0.now ++ byte ∷ r.1.now) × Lacks byte r.0.now) }
+/// What stands before the first such byte, and what stands after it. None where there is no such byte.
+pub fn split_at_byte(text: &[u8], byte: u8) -> Option<(&[u8], &[u8])>
+    ensures some { IfSome result (λ r.
+        (text.now ≡ r.0.now ++ byte ∷ r.1.now) × Lacks byte r.0.now) }
     ensures none { IfNone result (Lacks byte text.now) }
 {
     for (place, other) in text.iter().enumerate() {

@@ -1,8 +1,9 @@
 // Files and sinks in memory, which tell all that they hold.
-ghost use Rattle.std.specs.Prelude.{◌≡◌, ◌≤◌, ◌<◌, ◌+◌, ℕ, List, [], length, take, drop, IsTrue, if◌then◌else◌, nat_lt, unwrap_or, ◌++◌, ◌==◌, Some, None, IfOk, OnOk, OnErr};
+ghost use Rattle.std.specs.Prelude.{◌≡◌, ◌≤◌, ◌<◌, ◌+◌, ℕ, List, [], length, take, drop, IsTrue, if◌then◌else◌, nat_lt, unwrap_or, ◌++◌, ◌==◌, ◌-◌, ◌^◌, Some, None, IfOk, OnOk, OnErr, IsErrOf};
 ghost use Rattle.std.specs.List.{list_any};
-ghost use Rattle.merlin_base.specs.Outside.{Rose, FailsOnlyIf};
-ghost use Rattle.merlin_base.specs.Contents.{content_at, content_of, IsPlace, left_of, fault_count, faults_of};
+ghost use Rattle.merlin_base.specs.Outside.{Rose, FailsOnlyIf, NoneFalls, EachRose, IsReadUpTo, GivesNext};
+ghost use Rattle.std.specs.Io.{ReadsAtMost};
+ghost use Rattle.merlin_base.specs.Contents.{content_at, content_of, IsPlace, left_of, fault_count, faults_of, is_listed as is_listed_of};
 
 use crate::{Files, Name, OutsideFault, Sink};
 use std::alloc::Global;
@@ -10,7 +11,8 @@ use std::alloc::Global;
 // The place of the first file of this name, or past the end.
 fn place_of(files: &[(Name, Vec<u8>)], name: &[u8]) -> usize
     ensures within { result ≤ length files.now }
-    ensures found { content_of files.now name.now ≡ (if nat_lt result (length files.now) then Some (content_at files.now result) else None) }
+    ensures found { content_of files.now name.now ≡
+        (if nat_lt result (length files.now) then Some (content_at files.now result) else None) }
     ensures content { content_at files.now result ≡ unwrap_or (content_of files.now name.now) [] }
 {
     for (place, file) in files.iter().enumerate() {
@@ -46,7 +48,7 @@ fn copy_front(content: &[u8], at: usize, buf: &mut [u8]) -> usize
 
 // Whether the number is listed.
 fn is_listed(failing: &[u64], number: u128) -> bool
-    ensures { result ≡ list_any (λ listed. listed == number) failing.now }
+    ensures { result ≡ is_listed_of failing.now number }
 {
     failing.iter().any(|listed| u128::from(*listed) == number)
 }
@@ -56,7 +58,10 @@ fn fails(failing: &[u64], calls: &mut u128) -> bool
     ensures later { calls.old ≤ calls.new }
     ensures more { Rose calls.old calls.new }
     ensures later_faults { fault_count failing.now calls.old ≤ fault_count failing.now calls.new }
-    ensures failed { IsTrue result → Rose (fault_count failing.now calls.old) (fault_count failing.now calls.new) }
+    ensures failed { IsTrue result → Rose (fault_count failing.now calls.old)
+        (fault_count failing.now calls.new) }
+    ensures next { calls.old < 2 ^ 128 - 1 → calls.new ≡ calls.old + 1 }
+    ensures listed { calls.old < 2 ^ 128 - 1 → result ≡ is_listed_of failing.now calls.old }
 {
     let number = *calls;
     match number.checked_add(1) {
@@ -82,7 +87,8 @@ impl MemoryFiles {
 
     /// These files, of which the first of a name counts.
     pub fn new(files: Vec<(Name, Vec<u8>)>, failing: Vec<u64>) -> Self
-        ensures contents { ⟦<MemoryFiles as Files>⟧.contents result ≡ Some (content_of files.items) }
+        ensures contents { ⟦<MemoryFiles as Files>⟧.contents result ≡
+            Some (content_of files.items) }
         ensures faults { (name : List ℕ) → ⟦<MemoryFiles as Files>⟧.faults result name ≡ 0 }
         ensures failing { failing_reads result ≡ failing.items }
         ensures calls { reads result ≡ 0 }
@@ -97,15 +103,28 @@ impl MemoryFiles {
 }
 
 impl Files for MemoryFiles {
-    ghost faults = { λ s name. faults_of s.files.items s.failing.items s.calls name };
+    ghost use Rattle.merlin_base.specs.Memory.{read_faults, held_contents, unread, IsStarted};
+    ghost use Rattle.merlin_base.specs.Memory.{IsStartCall, IsReadCall};
 
-    ghost contents = { λ s. Some (content_of s.files.items) };
+    ghost faults = { read_faults };
 
-    ghost rest = { λ s. left_of s.files.items s.started };
+    ghost contents = { held_contents };
 
-    ghost is_started = { λ s. IsPlace s.files.items s.started };
+    ghost rest = { unread };
 
-    fn start(&mut self, name: &str) -> Result<(), OutsideFault> {
+    ghost is_started = { IsStarted };
+
+    fn start(&mut self, name: &str) -> Result<(), OutsideFault>
+        ensures contents { held_contents self.new ≡ held_contents self.old }
+        ensures started { OnOk result (IsStarted self.new) }
+        ensures begins { OnOk result (IsReadUpTo (held_contents self.new)
+            (unread self.new) name.now []) }
+        ensures later { NoneFalls (read_faults self.old) (read_faults self.new) }
+        ensures failed { FailsOnlyIf result (Rose (read_faults self.old name.now)
+            (read_faults self.new name.now)) }
+        ensures call { IsStartCall self.old self.new name.now result }
+        ensures memory { IsErrOf result OutsideFault.OutOfMemory → ⊥ }
+    {
         self.started = None;
         let fails = fails(&self.failing, &mut self.calls);
         let place = place_of(&self.files, name.as_bytes());
@@ -116,7 +135,18 @@ impl Files for MemoryFiles {
         Ok(())
     }
 
-    fn read(&mut self, buf: &mut [u8]) -> Result<usize, OutsideFault> {
+    fn read(&mut self, buf: &mut [u8]) -> Result<usize, OutsideFault>
+        requires { IsStarted self.old }
+        ensures contents { held_contents self.new ≡ held_contents self.old }
+        ensures started { OnOk result (IsStarted self.new) }
+        ensures bound { ReadsAtMost result buf.new }
+        ensures bytes { GivesNext (unread self.old) (unread self.new) result buf.new }
+        ensures later { NoneFalls (read_faults self.old) (read_faults self.new) }
+        ensures failed { FailsOnlyIf result (EachRose (read_faults self.old)
+            (read_faults self.new)) }
+        ensures call { IsReadCall self.old self.new result }
+        ensures memory { IsErrOf result OutsideFault.OutOfMemory → ⊥ }
+    {
         let Some((place, at)) = self.started else {
             unreachable!()
         };
@@ -140,7 +170,8 @@ pub struct SureFiles {
 impl SureFiles {
     /// These files, of which the first of a name counts.
     pub fn new(files: Vec<(Name, Vec<u8>)>) -> Self
-        ensures { ⟦<SureFiles as Files>⟧.contents result ≡ Some (λ name. Some (unwrap_or (content_of files.items name) [])) }
+        ensures { ⟦<SureFiles as Files>⟧.contents result ≡
+            Some (λ name. Some (unwrap_or (content_of files.items name) [])) }
     {
         SureFiles {
             files,
@@ -206,7 +237,9 @@ impl MemorySink {
 }
 
 impl Sink for MemorySink {
-    ghost faults = { λ s. fault_count s.failing.items s.calls };
+    ghost use Rattle.merlin_base.specs.Memory.{write_faults, IsWriteCall};
+
+    ghost faults = { write_faults };
 
     ghost taken = { λ s. Some s.bytes.items };
 
@@ -214,8 +247,9 @@ impl Sink for MemorySink {
         ensures whole { IfOk result (λ n. n ≡ length piece.now) }
         ensures ok { OnOk result (self.new.bytes.items ≡ self.old.bytes.items ++ piece.now) }
         ensures err { OnErr result (self.new.bytes.items ≡ self.old.bytes.items) }
-        ensures later { fault_count self.old.failing.items self.old.calls ≤ fault_count self.new.failing.items self.new.calls }
-        ensures failed { FailsOnlyIf result (Rose (fault_count self.old.failing.items self.old.calls) (fault_count self.new.failing.items self.new.calls)) }
+        ensures later { write_faults self.old ≤ write_faults self.new }
+        ensures failed { FailsOnlyIf result (Rose (write_faults self.old) (write_faults self.new)) }
+        ensures call { IsWriteCall self.old self.new result }
     {
         if fails(&self.failing, &mut self.calls) {
             return Err(OutsideFault::Failed);

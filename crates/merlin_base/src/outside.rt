@@ -1,7 +1,7 @@
 // Files and a sink, by what they tell and by the count of their faults.
 ghost use Rattle.std.specs.Prelude.{◌≡◌, ◌<◌, ◌≤◌, List, [], ℕ, Option, length, take, OnOk, OnErr, IfOk};
 ghost use Rattle.std.specs.Io.{ReadsAtMost};
-ghost use Rattle.merlin_base.specs.Outside.{Told, Rose, IsReadUpTo, NoneFalls, FailsOnlyIf, Grows, GivesNext};
+ghost use Rattle.merlin_base.specs.Outside.{KnownContents, Rose, IsReadUpTo, NoneFalls, EachRose, FailsOnlyIf, Grows, GivesNext};
 
 use thiserror::Error;
 
@@ -22,7 +22,7 @@ pub trait Files {
     ghost faults: { Self → List ℕ → ℕ };
 
     /// The contents by name, where they are told.
-    ghost contents: { Self → Told };
+    ghost contents: { Self → KnownContents };
 
     /// What is left of the started file, where it is told.
     ghost rest: { Self → Option (List ℕ) };
@@ -36,7 +36,8 @@ pub trait Files {
         ensures started { OnOk result (is_started self.new) }
         ensures begins { OnOk result (IsReadUpTo (contents self.new) (rest self.new) name.now []) }
         ensures later { NoneFalls (faults self.old) (faults self.new) }
-        ensures failed { FailsOnlyIf result (Rose (faults self.old name.now) (faults self.new name.now)) };
+        ensures failed { FailsOnlyIf result (Rose (faults self.old name.now)
+            (faults self.new name.now)) };
 
     /// Puts the next bytes at the front of the buffer. 0 for a buffer with room means the end.
     fn read(&mut self, buf: &mut [u8]) -> Result<usize, OutsideFault>
@@ -46,7 +47,7 @@ pub trait Files {
         ensures bound { ReadsAtMost result buf.new }
         ensures bytes { GivesNext (rest self.old) (rest self.new) result buf.new }
         ensures later { NoneFalls (faults self.old) (faults self.new) }
-        ensures failed { FailsOnlyIf result ((name : List ℕ) → Rose (faults self.old name) (faults self.new name)) };
+        ensures failed { FailsOnlyIf result (EachRose (faults self.old) (faults self.new)) };
 }
 
 /// What takes bytes.

@@ -56,8 +56,10 @@ pub fn read_all<F: Files>(
     ensures whole { IfOk result (λ bytes. IsFile (F.contents files.old) name.now bytes.items) }
     ensures fits { IfOk result (λ bytes. vec_len bytes ≤ limit) }
     ensures later { NoneFalls (F.faults files.old) (F.faults files.new) }
-    ensures outside { IsErrOf result ReadFail.Outside → Rose (F.faults files.old name.now) (F.faults files.new name.now) }
-    ensures too_long { IsErrOf result ReadFail.TooLong → IsLongerThan (F.contents files.old) name.now limit }
+    ensures outside { IsErrOf result ReadFail.Outside →
+        Rose (F.faults files.old name.now) (F.faults files.new name.now) }
+    ensures too_long { IsErrOf result ReadFail.TooLong →
+        IsLongerThan (F.contents files.old) name.now limit }
 {
     files.start(name)?;
     let mut bytes = Vec::new(alloc);
@@ -91,7 +93,8 @@ pub fn write_all<K: Sink>(out: &mut K, piece: &[u8]) -> Result<(), OutsideFault>
 /// Hands lines to the sink, each as one piece.
 pub fn write_lines<K: Sink>(out: &mut K, lines: &[Name]) -> Result<(), OutsideFault>
     ensures ok { OnOk result (Grows (K.taken out.old) (K.taken out.new) (joined lines.now)) }
-    ensures err { OnErr result (GrowsByPrefix (K.taken out.old) (K.taken out.new) (joined lines.now)) }
+    ensures err { OnErr result (GrowsByPrefix (K.taken out.old) (K.taken out.new)
+        (joined lines.now)) }
     ensures later { K.faults out.old ≤ K.faults out.new }
     ensures failed { FailsOnlyIf result (Rose (K.faults out.old) (K.faults out.new)) }
 {

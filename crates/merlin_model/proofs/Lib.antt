@@ -1,8 +1,10 @@
 pub mod Members
-pub mod Wires
+pub mod DirectedLinks
 pub mod Matching
 pub mod WordLaws
 pub mod Traces
+pub mod FunctionRuns
+pub mod PacketOrder
 pub mod Acting
 pub mod ActsAt
 pub mod Fitting
@@ -10,3 +12,5 @@ pub mod Ascending
 pub mod ShareLaws
 pub mod Sums
 pub mod Refuting
+pub mod Guaranteed
+pub mod NodeCounts

@@ -7,54 +7,54 @@ use Rattle.std.proofs.Math.Nat.{mul-le-mul_left}
 use borrow.Author.Differences.{up, down}
 use Rattle.merlin_model.specs.declared.certificate.Weight.{Weight}
 use Rattle.merlin_model.specs.declared.certificate.Tree.{Tree, Leaf, Split', Unclosed, end_of-Tree, more_of-Tree}
-use Rattle.merlin_model.specs.Programs.{Program, variables, no_row, total, taken, is_chosen, left_of, Compares, IsSolution}
+use Rattle.merlin_model.specs.Programs.{Program, variables, no_row, total, coefficient_if, is_chosen, left_side, Compares, IsSolution}
 use Rattle.merlin_model.specs.Trees.{fixed_at, fix, IsInBox, row_of, coefficient_in, weighted_coefficient, weighted_right, least_addition, least_value, IsPositiveOnBounds, RefutesBox, Node, IsSoundNode, nodes_of, Refutes}
 use Rattle.merlin_model.proofs.Sums.{taken-zero, taken-add, taken-mul, total-add, total-mul, total-le, total-same, total-zero, total-outside, total-inside, coefficient_in-cons}
 
 -- What the variables of a row add at a point is its left side.
 
 one_place : (point : List Bool) (n u : ℕ) (z : ℤ) → length point ≡ n →
-    total (map (λ v. taken (is_chosen point v) (taken (u == v) z)) (range_with_len 0 n)) ≡ taken (is_chosen point u) z
+    total (map (λ v. coefficient_if (is_chosen point v) (coefficient_if (u == v) z)) (range_with_len 0 n)) ≡ coefficient_if (is_chosen point u) z
 one_place point n u z size = by (nat_lt u n) refl
   where
-    by : (b : Bool) → nat_lt u n ≡ b → total (map (λ v. taken (is_chosen point v) (taken (u == v) z)) (range_with_len 0 n)) ≡ taken (is_chosen point u) z
+    by : (b : Bool) → nat_lt u n ≡ b → total (map (λ v. coefficient_if (is_chosen point v) (coefficient_if (u == v) z)) (range_with_len 0 n)) ≡ coefficient_if (is_chosen point u) z
     by true e = total-inside (is_chosen point) u z 0 n (omega arith) (grind arith)
     by false e =
         let past : n ≤ u = grind arith in
         let none : is_chosen point u ≡ false = get_or_past point u false (omega arith) in
-        total-outside (is_chosen point) u z 0 n (inr (omega arith)) ∙ sym (ap (λ b. taken b z) none)
+        total-outside (is_chosen point) u z 0 n (inr (omega arith)) ∙ sym (ap (λ b. coefficient_if b z) none)
 
 row_sum : (point : List Bool) (n : ℕ) (entries : List (ℕ × ℤ)) → length point ≡ n →
-    total (map (λ v. taken (is_chosen point v) (coefficient_in v entries)) (range_with_len 0 n)) ≡ left_of entries point
+    total (map (λ v. coefficient_if (is_chosen point v) (coefficient_in v entries)) (range_with_len 0 n)) ≡ left_side entries point
 row_sum point n [] size = total-zero _ (range_with_len 0 n) (λ v. taken-zero (is_chosen point v))
 row_sum point n (e ∷ es) size =
-    total-same _ (λ v. taken (is_chosen point v) (taken (e.0 == v) e.1) +ℤ taken (is_chosen point v) (coefficient_in v es)) (range_with_len 0 n)
-    (λ v. ap (taken (is_chosen point v)) (coefficient_in-cons v e es) ∙ taken-add (is_chosen point v) (taken (e.0 == v) e.1) (coefficient_in v es))
-    ∙ total-add (λ v. taken (is_chosen point v) (taken (e.0 == v) e.1)) (λ v. taken (is_chosen point v) (coefficient_in v es)) (range_with_len 0 n)
-    ∙ ap (λ t. t +ℤ total (map (λ v. taken (is_chosen point v) (coefficient_in v es)) (range_with_len 0 n))) (one_place point n e.0 e.1 size)
-    ∙ ap (λ t. taken (is_chosen point e.0) e.1 +ℤ t) (row_sum point n es size)
+    total-same _ (λ v. coefficient_if (is_chosen point v) (coefficient_if (e.0 == v) e.1) +ℤ coefficient_if (is_chosen point v) (coefficient_in v es)) (range_with_len 0 n)
+    (λ v. ap (coefficient_if (is_chosen point v)) (coefficient_in-cons v e es) ∙ taken-add (is_chosen point v) (coefficient_if (e.0 == v) e.1) (coefficient_in v es))
+    ∙ total-add (λ v. coefficient_if (is_chosen point v) (coefficient_if (e.0 == v) e.1)) (λ v. coefficient_if (is_chosen point v) (coefficient_in v es)) (range_with_len 0 n)
+    ∙ ap (λ t. t +ℤ total (map (λ v. coefficient_if (is_chosen point v) (coefficient_in v es)) (range_with_len 0 n))) (one_place point n e.0 e.1 size)
+    ∙ ap (λ t. coefficient_if (is_chosen point e.0) e.1 +ℤ t) (row_sum point n es size)
 
 abbrev weighted_left : Program → List Weight → List Bool → ℤ
-weighted_left program weights point = total (map (λ w. w.weight *ℤ left_of (row_of program w).entries point) weights)
+weighted_left program weights point = total (map (λ w. w.weight *ℤ left_side (row_of program w).entries point) weights)
 
 weights_sum : (program : Program) (point : List Bool) (n : ℕ) (weights : List Weight) → length point ≡ n →
-    total (map (λ v. taken (is_chosen point v) (weighted_coefficient program weights v)) (range_with_len 0 n)) ≡ weighted_left program weights point
+    total (map (λ v. coefficient_if (is_chosen point v) (weighted_coefficient program weights v)) (range_with_len 0 n)) ≡ weighted_left program weights point
 weights_sum program point n [] size = total-zero _ (range_with_len 0 n) (λ v. taken-zero (is_chosen point v))
 weights_sum program point n (w ∷ ws) size =
-    total-same _ (λ v. taken (is_chosen point v) (w.weight *ℤ coefficient_in v entries) +ℤ taken (is_chosen point v) (weighted_coefficient program ws v)) (range_with_len 0 n)
+    total-same _ (λ v. coefficient_if (is_chosen point v) (w.weight *ℤ coefficient_in v entries) +ℤ coefficient_if (is_chosen point v) (weighted_coefficient program ws v)) (range_with_len 0 n)
     (λ v. taken-add (is_chosen point v) (w.weight *ℤ coefficient_in v entries) (weighted_coefficient program ws v))
-    ∙ total-add (λ v. taken (is_chosen point v) (w.weight *ℤ coefficient_in v entries)) (λ v. taken (is_chosen point v) (weighted_coefficient program ws v)) (range_with_len 0 n)
-    ∙ ap (λ t. t +ℤ total (map (λ v. taken (is_chosen point v) (weighted_coefficient program ws v)) (range_with_len 0 n))) first
-    ∙ ap (λ t. w.weight *ℤ left_of entries point +ℤ t) (weights_sum program point n ws size)
+    ∙ total-add (λ v. coefficient_if (is_chosen point v) (w.weight *ℤ coefficient_in v entries)) (λ v. coefficient_if (is_chosen point v) (weighted_coefficient program ws v)) (range_with_len 0 n)
+    ∙ ap (λ t. t +ℤ total (map (λ v. coefficient_if (is_chosen point v) (weighted_coefficient program ws v)) (range_with_len 0 n))) first
+    ∙ ap (λ t. w.weight *ℤ left_side entries point +ℤ t) (weights_sum program point n ws size)
   where
     entries : List (ℕ × ℤ)
     entries = (row_of program w).entries
 
-    first : total (map (λ v. taken (is_chosen point v) (w.weight *ℤ coefficient_in v entries)) (range_with_len 0 n)) ≡ w.weight *ℤ left_of entries point
+    first : total (map (λ v. coefficient_if (is_chosen point v) (w.weight *ℤ coefficient_in v entries)) (range_with_len 0 n)) ≡ w.weight *ℤ left_side entries point
     first =
-        total-same _ (λ v. w.weight *ℤ taken (is_chosen point v) (coefficient_in v entries)) (range_with_len 0 n)
+        total-same _ (λ v. w.weight *ℤ coefficient_if (is_chosen point v) (coefficient_in v entries)) (range_with_len 0 n)
         (λ v. taken-mul (is_chosen point v) w.weight (coefficient_in v entries))
-        ∙ total-mul w.weight (λ v. taken (is_chosen point v) (coefficient_in v entries)) (range_with_len 0 n)
+        ∙ total-mul w.weight (λ v. coefficient_if (is_chosen point v) (coefficient_in v entries)) (range_with_len 0 n)
         ∙ ap (λ t. w.weight *ℤ t) (row_sum point n entries size)
 
 -- The least value of a box is no more than the left sides at any of its points.
@@ -63,7 +63,7 @@ false-true : false ≡ true → ⊥
 false-true e = cc
 
 least_addition-le : (fixed : Option Bool) (upper chosen : Bool) (z : ℤ) → ((to : Bool) → fixed ≡ Some to → chosen ≡ to) → (chosen ≡ true → upper ≡ true) →
-    least_addition fixed upper z ≤ℤ taken chosen z
+    least_addition fixed upper z ≤ℤ coefficient_if chosen z
 least_addition-le (Some true) upper true z is may = omega (arith, ints)
 least_addition-le (Some true) upper false z is may = absurd (false-true (is true refl))
 least_addition-le (Some false) upper true z is may = absurd (false-true (sym (is false refl)))
@@ -96,8 +96,8 @@ weights_bound : (program : Program) (point : List Bool) (weights : List Weight) 
 weights_bound program point [] solution exist signs = omega (arith, ints)
 weights_bound program point (w ∷ ws) solution exist signs =
     let rest = weights_bound program point ws solution exist.1 signs.1 in
-    let here = row_bound (row_of program w).is_equality w.weight (left_of (row_of program w).entries point) (row_of program w).right signs.0
-    (at_index (λ row. Compares row.is_equality (left_of row.entries point) row.right) program.rows w.row no_row solution.meets exist.0) in
+    let here = row_bound (row_of program w).is_equality w.weight (left_side (row_of program w).entries point) (row_of program w).right signs.0
+    (at_index (λ row. Compares row.is_equality (left_side row.entries point) row.right) program.rows w.row no_row solution.meets exist.0) in
     omega (arith, ints)
 
 pub refuted_box : (program : Program) (box : List (Option Bool)) (weights : List Weight) (point : List Bool) →

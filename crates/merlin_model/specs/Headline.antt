@@ -1,24 +1,19 @@
--- What a compiled configuration promises.
+-- What a compiled configuration promises: of packets, of guarantees and of caps.
 use Rattle.std.specs.Prelude.{ℕ, ◌≡◌, ◌≢◌, ◌≤◌, ◌<◌, ◌+◌, ◌*◌, ◌==◌, ◌&&◌, ◌↔◌, ◌⊎◌, List, [], ◌∷◌, ◌++◌, map, sum, sum_by, filter, length, AllPairs, Contains, Option, None, Some, slice_get}
 use Rattle.std.specs.List.{AllByRecursion, AllZip}
 use Rattle.std.specs.List.Sorted.{IsStrictlyIncreasing}
 use Rattle.merlin_model.specs.declared.policy.Symbol.{Symbol}
 use Rattle.merlin_model.specs.declared.policy.Ends.{Ends}
-use Rattle.merlin_model.specs.declared.policy.Objective.{Objective}
-use Rattle.merlin_model.specs.declared.policy.Value.{Value}
 use Rattle.merlin_model.specs.declared.config.Queue.{Queue}
 use Rattle.merlin_model.specs.declared.config.HostLine.TheVariants as line
 use Rattle.merlin_model.specs.declared.config.Config.{Config}
-use Rattle.merlin_model.specs.declared.certificate.Tree.{Tree}
 use Rattle.merlin_model.specs.Packets.{Packet, IsPacket}
-use Rattle.merlin_model.specs.Networks.{Network, IsHost, IsProper, Wire, wires}
+use Rattle.merlin_model.specs.Networks.{Network, IsHost, IsProper, DirectedLink, directed_links}
 use Rattle.merlin_model.specs.Words.{Stop, visits, crossings}
 use Rattle.merlin_model.specs.Policies.{Policy, match_of, IsAllowed}
 use Rattle.merlin_model.specs.Rates.{max_of, min_of, IsGuaranteed, IsLiveSource, AreLiveSources, IsShareAt}
-use Rattle.merlin_model.specs.Assignments.{load, IsFeasible, IsLeast, value_of}
+use Rattle.merlin_model.specs.Assignments.{load, IsFeasible}
 use Rattle.merlin_model.specs.Machine.{start, Visit, End, Delivered, Dropped, EachRun}
-use Rattle.merlin_model.specs.Programs.{Program}
-use Rattle.merlin_model.specs.Trees.{Refutes, nodes_of, root_box}
 
 -- where a record was made, and the functions that ran there
 abbrev pub stop_of : Visit → Stop
@@ -38,64 +33,83 @@ HasRoom net policy i s = (max_of policy i ≡ None) ⊎ ((c : ℕ) × IsShareAt 
 
 -- w is the walk that is written for the guaranteed statement i
 abbrev pub IsWalkOf : List Ends → List (List Symbol) → ℕ → List Symbol → Type 0
-IsWalkOf ends walks i w = (k : ℕ) × (e : Ends) × (slice_get ends k ≡ Some e) × (e.statement ≡ i) × (slice_get walks k ≡ Some w)
+IsWalkOf ends walks i w =
+    (k : ℕ) × (e : Ends) × (slice_get ends k ≡ Some e) × (e.statement ≡ i)
+    × (slice_get walks k ≡ Some w)
 
 -- t is the first switch of host s
 abbrev pub IsFirstSwitch : Network → ℕ → ℕ → Type 0
-IsFirstSwitch net s t = (wire : Wire) × Contains (wires net) wire × (wire.from ≡ s) × (wire.to ≡ t)
+IsFirstSwitch net s t =
+    (link : DirectedLink) × Contains (directed_links net) link × (link.from ≡ s) × (link.to ≡ t)
 
 -- dropped at once, or at the first switch
 abbrev pub IsDroppedAtHost : ℕ → List Visit → End → Type 0
 IsDroppedAtHost s records end = (records ≡ []) × (end ≡ Dropped s)
 
 abbrev pub IsDroppedAtSwitch : Network → ℕ → List Visit → End → Type 0
-IsDroppedAtSwitch net s records end = (t : ℕ) × IsFirstSwitch net s t × (map stop_of records ≡ stop_at s ∷ []) × (end ≡ Dropped t)
+IsDroppedAtSwitch net s records end =
+    (t : ℕ) × IsFirstSwitch net s t × (map stop_of records ≡ stop_at s ∷ []) × (end ≡ Dropped t)
+
+-- each class of each host has one line
+abbrev pub HasOneLinePerClass : Config → Type 0
+HasOneLinePerClass config =
+    (i j s x : ℕ) (rate ceil rate' ceil' : ℕ) →
+    slice_get config.hosts i ≡ Some (line.Class s x rate ceil) →
+    slice_get config.hosts j ≡ Some (line.Class s x rate' ceil') → i ≡ j
 
 module _ (net : Network) (policy : Policy) (ends : List Ends) (walks : List (List Symbol)) (config : Config) where
-  -- The run is delivered at the end of an allowed walk, after the stops of that walk. It is the written walk of a
-  -- guaranteed statement; for best effort no allowed word has fewer symbols.
+  -- The run is delivered at the end of an allowed walk, after the stops of that walk. It is the
+  -- written walk of a guaranteed statement; for best effort no allowed word has fewer symbols.
   pub record FollowsWalk (s d : ℕ) (p : Packet) (records : List Visit) (end : End) : Type 0 where
     pub packet : Packet
     pub delivered : end ≡ Delivered d packet
     pub word : List Symbol
     pub allowed : IsAllowed net policy p s word
     pub stops : map stop_of records ++ stop_at d ∷ [] ≡ visits word
-    pub written : IsGuaranteed policy (match_of policy p) → IsWalkOf ends walks (match_of policy p) word
-    pub shortest : ¬ IsGuaranteed policy (match_of policy p) → (other : List Symbol) → IsAllowed net policy p s other → length word ≤ length other
+    pub written : IsGuaranteed policy (match_of policy p) →
+        IsWalkOf ends walks (match_of policy p) word
+    pub shortest : ¬ IsGuaranteed policy (match_of policy p) → (other : List Symbol) →
+        IsAllowed net policy p s other → length word ≤ length other
 
   -- Packets: each run of each packet from each host.
   pub record DeliversPackets : Type 0 where
-    pub allowed : (s d : ℕ) (p : Packet) → IsPacket p → IsProper net p s d → HasAllowed net policy s p → HasRoom net policy (match_of policy p) s →
+    pub allowed : (s d : ℕ) (p : Packet) → IsPacket p → IsProper net p s d →
+        HasAllowed net policy s p → HasRoom net policy (match_of policy p) s →
         EachRun net config (start s p) (FollowsWalk s d p)
-    pub no_share : (s d : ℕ) (p : Packet) → IsPacket p → IsProper net p s d → IsShareAt net policy (match_of policy p) s 0 →
+    pub no_share : (s d : ℕ) (p : Packet) → IsPacket p → IsProper net p s d →
+        IsShareAt net policy (match_of policy p) s 0 →
         EachRun net config (start s p) (IsDroppedAtHost s)
-    pub none_allowed : (s d : ℕ) (p : Packet) → IsPacket p → IsProper net p s d → ¬ HasAllowed net policy s p → ¬ IsShareAt net policy (match_of policy p) s 0 →
+    pub none_allowed : (s d : ℕ) (p : Packet) → IsPacket p → IsProper net p s d →
+        ¬ HasAllowed net policy s p → ¬ IsShareAt net policy (match_of policy p) s 0 →
         EachRun net config (start s p) (IsDroppedAtSwitch net s)
-    pub improper : (s : ℕ) (p : Packet) → IsPacket p → IsHost net s → ((d : ℕ) → ¬ IsProper net p s d) →
+    pub improper : (s : ℕ) (p : Packet) → IsPacket p → IsHost net s →
+        ((d : ℕ) → ¬ IsProper net p s d) →
         EachRun net config (start s p) (λ records end. IsDroppedAtHost s records end ⊎ IsDroppedAtSwitch net s records end)
 
-  -- the line reserves, on one wire that a guaranteed walk crosses, the minimum as often as the walk crosses it
+  -- the line reserves, on one directed link that a guaranteed walk crosses, the minimum as often as
+  -- the walk crosses it
   pub record IsReservation (q : Queue) : Type 0 where
     pub place : ℕ
     pub at : Ends
     pub walk : List Symbol
     pub statement : slice_get ends place ≡ Some at
     pub walks_there : slice_get walks place ≡ Some walk
-    pub wire : Wire
-    pub present : Contains (wires net) wire
-    pub crossed : 0 < crossings walk wire.from wire.to
-    pub loc : q.loc ≡ wire.from
-    pub port : q.port ≡ wire.out_port
+    pub link : DirectedLink
+    pub present : Contains (directed_links net) link
+    pub crossed : 0 < crossings walk link.from link.to
+    pub loc : q.loc ≡ link.from
+    pub port : q.port ≡ link.out_port
     pub number : q.queue ≡ place + 1
-    pub rate : q.rate ≡ min_of policy at.statement * crossings walk wire.from wire.to
+    pub rate : q.rate ≡ min_of policy at.statement * crossings walk link.from link.to
 
-  -- what the queue lines of a wire reserve together
-  abbrev pub reserved_on : Wire → ℕ
-  reserved_on wire = sum_by (λ q. q.rate) (filter (λ q. (q.loc == wire.from) && (q.port == wire.out_port)) config.queues)
+  -- what the queue lines of a directed link reserve together
+  abbrev pub reserved_on : DirectedLink → ℕ
+  reserved_on link = sum_by (λ q. q.rate) (filter (λ q. (q.loc == link.from) && (q.port == link.out_port)) config.queues)
 
   -- host s has this class, with this rate
   abbrev pub HasClass : ℕ → Option ℕ → ℕ → Type 0
-  HasClass s class rate = (x : ℕ) × (ceil : ℕ) × (class ≡ Some x) × Contains config.hosts (line.Class s x rate ceil)
+  HasClass s class rate =
+      (x : ℕ) × (ceil : ℕ) × (class ≡ Some x) × Contains config.hosts (line.Class s x rate ceil)
 
   -- the first record is the host's, in a class of this rate, and all others are through the queue
   pub record GoesThrough (s q rate : ℕ) (records : List Visit) : Type 0 where
@@ -110,16 +124,22 @@ module _ (net : Network) (policy : Policy) (ends : List Ends) (walks : List (Lis
   pub record MeetsGuarantees : Type 0 where
     pub lines : (q : Queue) → Contains config.queues q ↔ IsReservation q
     pub once : AllPairs (λ q r. q ≢ r) config.queues
-    pub loads : AllByRecursion (λ wire. reserved_on wire ≡ load net policy ends walks wire.from wire.to) (wires net)
+    pub loads :
+        AllByRecursion (λ link. reserved_on link ≡ load net policy ends walks link.from link.to) (directed_links net)
     pub feasible : IsFeasible net policy ends walks
-    pub taken : (s : ℕ) (p : Packet) (k : ℕ) (e : Ends) → IsPacket p → HasAllowed net policy s p → slice_get ends k ≡ Some e → e.statement ≡ match_of policy p →
+    pub taken : (s : ℕ) (p : Packet) (k : ℕ) (e : Ends) → IsPacket p → HasAllowed net policy s p →
+        slice_get ends k ≡ Some e → e.statement ≡ match_of policy p →
         EachRun net config (start s p) (λ records end. GoesThrough s (k + 1) (min_of policy e.statement) records)
 
-  -- statement i has a class at host s: s is a live source of it, and it is guaranteed or has a share above 0
+  -- statement i has a class at host s: s is a live source of it, and it is guaranteed or has a
+  -- share above 0
   abbrev pub IsClassed : ℕ → ℕ → Type 0
-  IsClassed i s = IsLiveSource net policy i s × (IsGuaranteed policy i ⊎ ((c : ℕ) × IsShareAt net policy i s c × (0 < c)))
+  IsClassed i s =
+      IsLiveSource net policy i s
+      × (IsGuaranteed policy i ⊎ ((c : ℕ) × IsShareAt net policy i s c × (0 < c)))
 
-  -- class x of host s is that of statement i: its classed statements are numbered from 1, in their order
+  -- class x of host s is that of statement i: its classed statements are numbered from 1, in their
+  -- order
   pub record IsClassOf (i s x : ℕ) : Type 0 where
     pub classed : List ℕ
     pub ascending : IsStrictlyIncreasing classed
@@ -130,28 +150,17 @@ module _ (net : Network) (policy : Policy) (ends : List Ends) (walks : List (Lis
 
   -- the ceiling of statement i at host s, 0 where it has no class there
   abbrev pub IsCeiling : ℕ → ℕ → ℕ → Type 0
-  IsCeiling i s c = ((¬ IsClassed i s) × (c ≡ 0)) ⊎ ((x : ℕ) × (rate : ℕ) × IsClassOf i s x × Contains config.hosts (line.Class s x rate c))
+  IsCeiling i s c =
+      ((¬ IsClassed i s) × (c ≡ 0))
+      ⊎ ((x : ℕ) × (rate : ℕ) × IsClassOf i s x × Contains config.hosts (line.Class s x rate c))
 
   -- Caps: the ceilings of a statement sum to its cap, and its packets are in its classes.
   pub record KeepsCaps : Type 0 where
-    pub sums : (i cap : ℕ) (hosts : List ℕ) → max_of policy i ≡ Some cap → AreLiveSources net policy i hosts → hosts ≢ [] →
+    pub sums : (i cap : ℕ) (hosts : List ℕ) → max_of policy i ≡ Some cap →
+        AreLiveSources net policy i hosts → hosts ≢ [] →
         (ceilings : List ℕ) × AllZip (IsCeiling i) hosts ceilings × (sum ceilings ≡ cap)
-    pub classed : (s : ℕ) (p : Packet) (c : ℕ) → IsPacket p → HasAllowed net policy s p → IsShareAt net policy (match_of policy p) s c → 0 < c →
+    pub classed : (s : ℕ) (p : Packet) (c : ℕ) → IsPacket p → HasAllowed net policy s p →
+        IsShareAt net policy (match_of policy p) s c → 0 < c →
         EachRun net config (start s p) (λ records end.
-        (first : Visit) × (others : List Visit) × (x : ℕ) × (records ≡ first ∷ others) × (first.class ≡ Some x) × IsClassOf (match_of policy p) s x)
-
-  -- The certificate: the walks are best, the value is theirs, and the tree, which has at most `budget` nodes, refutes
-  -- the program that asks for a smaller one.
-  pub record IsCertifiedLeast (objective : Objective) (value : Value) (program : Program) (tree : Tree) (budget : ℕ) : Type 0 where
-    pub least : IsLeast net policy ends objective walks
-    pub value_is : value ≡ value_of net policy ends objective walks
-    pub refutes : Refutes program tree (root_box program)
-    pub nodes : length (nodes_of tree (root_box program)) ≤ budget
-
--- The whole promise: each packet follows a walk and functions that its one statement allows, or is dropped exactly where
--- none is allowed or its share of a cap is zero; the reserved queues meet each guarantee within the capacities; the caps
--- are kept; and the certificate shows that no assignment of allowed walks has a smaller value.
-abbrev pub KeepsPromise : Network → Policy → List Ends → List (List Symbol) → Config → Objective → Value → Program → Tree → ℕ → Type 0
-KeepsPromise net policy ends walks config objective value program tree budget =
-    DeliversPackets net policy ends walks config × MeetsGuarantees net policy ends walks config × KeepsCaps net policy ends walks config
-    × IsCertifiedLeast net policy ends walks config objective value program tree budget
+        (first : Visit) × (others : List Visit) × (x : ℕ) × (records ≡ first ∷ others)
+        × (first.class ≡ Some x) × IsClassOf (match_of policy p) s x)

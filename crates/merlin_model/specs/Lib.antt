@@ -8,7 +8,9 @@ pub mod Policies
 pub mod Rates
 pub mod Assignments
 pub mod Machine
+pub mod Functions
 pub mod Programs
 pub mod Trees
 pub mod Headline
+pub mod Results
 pub mod Tests

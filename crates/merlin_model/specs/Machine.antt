@@ -17,11 +17,11 @@ use Rattle.merlin_model.specs.declared.config.HostLine.{HostLine}
 use Rattle.merlin_model.specs.declared.config.HostLine.TheVariants as line
 use Rattle.merlin_model.specs.declared.config.Config.{Config}
 use Rattle.merlin_model.specs.Packets.{Packet, IsPacket}
-use Rattle.merlin_model.specs.Networks.{Network, kind_of, Wire, wires}
+use Rattle.merlin_model.specs.Networks.{Network, kind_of, DirectedLink, directed_links}
 use Rattle.merlin_model.specs.Rates.{greatest_of}
 
--- A frame stands at a location, where it came in by a port, with a VLAN tag or untagged. A packet that starts at
--- its host has port 0.
+-- A frame stands at a location, where it came in by a port, with a VLAN tag or untagged. A packet
+-- that starts at its host has port 0.
 pub record Frame : Type 0 where
   pub loc : ℕ
   pub port : ℕ
@@ -31,8 +31,8 @@ pub record Frame : Type 0 where
 abbrev pub start : ℕ → Packet → Frame
 start s p = record { loc = s; port = 0; tag = None; packet = p }
 
--- What is recorded of a location that a frame leaves: the functions that ran there, the queue that it was sent
--- through, and the class that the host put it in.
+-- What is recorded of a location that a frame leaves: the functions that ran there, the queue that
+-- it was sent through, and the class that the host put it in.
 pub record Visit : Type 0 where
   pub loc : ℕ
   pub functions : List ℕ
@@ -43,9 +43,9 @@ pub data End : Type 0 where
   Delivered : (host : ℕ) → (packet : Packet) → End
   Dropped : (loc : ℕ) → End
 
--- A frame goes on over a wire, under a new tag, and leaves a record; or this is its end.
+-- A frame goes on over a directed link, under a new tag, and leaves a record; or this is its end.
 pub data Next : Type 0 where
-  Goes : (wire : Wire) → (tag : Option ℕ) → (visit : Visit) → Next
+  Forwards : (link : DirectedLink) → (tag : Option ℕ) → (visit : Visit) → Next
   Stops : (end : End) → Next
 
 -- Which rule fits. A field that a match does not name fits anything.
@@ -87,27 +87,29 @@ pub record Fits (r : Rule) (f : Frame) : Type 0 where
   pub tp_dst : agrees r.fits.tp_dst f.packet.dport ≡ true
 
 -- the rules of the frame's switch that fit it
-abbrev pub fitting : List Rule → Frame → List Rule
-fitting rules f = filter (is_for f) rules
+abbrev pub fitting_rules : List Rule → Frame → List Rule
+fitting_rules rules f = filter (is_for f) rules
 
 -- of these the first whose priority is the highest
-abbrev pub acting : List Rule → Frame → Option Rule
-acting rules f = find (λ r. r.priority == greatest_of (map (λ q. q.priority) (fitting rules f))) (fitting rules f)
+abbrev pub acting_rule : List Rule → Frame → Option Rule
+acting_rule rules f = find (λ r. r.priority == greatest_of (map (λ q. q.priority) (fitting_rules rules f))) (fitting_rules rules f)
 
--- The same by places: the rule at place k acts when it fits, no rule that fits has a higher priority, and none before it
--- has the same.
+-- The same by places: the rule at place k acts when it fits, no rule that fits has a higher
+-- priority, and none before it has the same.
 pub record ActsAt (rules : List Rule) (f : Frame) (k : ℕ) (r : Rule) : Type 0 where
   pub stands : slice_get rules k ≡ Some r
   pub fits : is_for f r ≡ true
-  pub highest : (j : ℕ) (q : Rule) → slice_get rules j ≡ Some q → is_for f q ≡ true → q.priority ≤ r.priority
-  pub first : (j : ℕ) (q : Rule) → j < k → slice_get rules j ≡ Some q → is_for f q ≡ true → q.priority < r.priority
+  pub highest : (j : ℕ) (q : Rule) → slice_get rules j ≡ Some q → is_for f q ≡ true →
+      q.priority ≤ r.priority
+  pub first : (j : ℕ) (q : Rule) → j < k → slice_get rules j ≡ Some q → is_for f q ≡ true →
+      q.priority < r.priority
 
 -- the first `process` line of the frame's middlebox for its tag and destination
-abbrev pub processing : List Process → Frame → Option Process
-processing processes f = find (λ p. (p.loc == f.loc) && tag_is f.tag p.tag && (p.eth_dst == f.packet.eth_dst)) processes
+abbrev pub acting_process : List Process → Frame → Option Process
+acting_process processes f = find (λ p. (p.loc == f.loc) && tag_is f.tag p.tag && (p.eth_dst == f.packet.eth_dst)) processes
 
--- The host's lists. OUTPUT is read to its first line that fits. POSTROUTING is read to its first RETURN that fits, and
--- the last CLASSIFY before it that fits counts.
+-- The host's lists. OUTPUT is read to its first line that fits. POSTROUTING is read to its first
+-- RETURN that fits, and the last CLASSIFY before it that fits counts.
 
 abbrev pub host_fits : HostMatch → Packet → Bool
 host_fits m p =
@@ -151,31 +153,31 @@ class_by lines host p = last_or None (filter_map (class_of host p) (take_while (
 
 -- What is sent.
 
--- the wire that leaves a location by a port
-abbrev pub wire_at : Network → ℕ → ℕ → Option Wire
-wire_at net loc port = find (λ wire. (wire.from == loc) && (wire.out_port == port)) (wires net)
+-- the directed link that leaves a location by a port
+abbrev pub link_at : Network → ℕ → ℕ → Option DirectedLink
+link_at net loc port = find (λ link. (link.from == loc) && (link.out_port == port)) (directed_links net)
 
--- the wire of a host
-abbrev pub wire_of : Network → ℕ → Option Wire
-wire_of net loc = find (λ wire. wire.from == loc) (wires net)
+-- the directed link of a host
+abbrev pub uplink_of : Network → ℕ → Option DirectedLink
+uplink_of net loc = find (λ link. link.from == loc) (directed_links net)
 
--- over that wire, or dropped where there is none
-abbrev pub over : ℕ → Option Wire → Option ℕ → Visit → Next
-over loc None tag visit = Stops (Dropped loc)
-over loc (Some wire) tag visit = Goes wire tag visit
+-- over that directed link, or dropped where there is none
+abbrev pub send_over : ℕ → Option DirectedLink → Option ℕ → Visit → Next
+send_over loc None tag visit = Stops (Dropped loc)
+send_over loc (Some link) tag visit = Forwards link tag visit
 
 -- a named port is no way back
-abbrev pub wire_to : Network → Frame → Out → Option Wire
-wire_to net f InPort = wire_at net f.loc f.port
-wire_to net f (Port port) = if port == f.port then None else wire_at net f.loc port
+abbrev pub link_to : Network → Frame → Out → Option DirectedLink
+link_to net f InPort = link_at net f.loc f.port
+link_to net f (Port port) = if port == f.port then None else link_at net f.loc port
 
 -- what a list of actions does with a frame that has this tag
 abbrev pub act : Network → Frame → Option ℕ → List Action → Next
 act net f tag [] = Stops (Dropped f.loc)
 act net f tag (SetVlan n ∷ actions) = act net f (Some n) actions
 act net f tag (StripVlan ∷ actions) = act net f None actions
-act net f tag (Output out ∷ actions) = over f.loc (wire_to net f out) tag (record { loc = f.loc; functions = []; queue = None; class = None })
-act net f tag (Enqueue out queue ∷ actions) = over f.loc (wire_to net f out) tag (record { loc = f.loc; functions = []; queue = Some queue; class = None })
+act net f tag (Output out ∷ actions) = send_over f.loc (link_to net f out) tag (record { loc = f.loc; functions = []; queue = None; class = None })
+act net f tag (Enqueue out queue ∷ actions) = send_over f.loc (link_to net f out) tag (record { loc = f.loc; functions = []; queue = Some queue; class = None })
 
 -- One step, by what stands there.
 
@@ -190,13 +192,13 @@ queue_of q = if q == 0 then None else Some q
 abbrev pub at_middlebox : Network → Frame → Option Process → Next
 at_middlebox net f None = Stops (Dropped f.loc)
 at_middlebox net f (Some line) =
-    over f.loc (wire_at net f.loc line.port) (Some line.next_tag)
+    send_over f.loc (link_at net f.loc line.port) (Some line.next_tag)
     (record { loc = f.loc; functions = line.functions; queue = queue_of line.queue; class = None })
 
 abbrev pub from_host : Network → List HostLine → Frame → Next
 from_host net lines f =
     if is_dropped_by lines f.loc f.packet then Stops (Dropped f.loc)
-    else over f.loc (wire_of net f.loc) None (record { loc = f.loc; functions = []; queue = None; class = class_by lines f.loc f.packet })
+    else send_over f.loc (uplink_of net f.loc) None (record { loc = f.loc; functions = []; queue = None; class = class_by lines f.loc f.packet })
 
 -- a tagged frame is dropped at a host
 abbrev pub arrived_at : ℕ → Option ℕ → Packet → Next
@@ -206,14 +208,15 @@ arrived_at loc (Some tag) p = Stops (Dropped loc)
 abbrev pub next_at : Network → Config → Frame → Option Kind → Next
 next_at net config f None = Stops (Dropped f.loc)
 next_at net config f (Some (Host address)) = if f.port == 0 then from_host net config.hosts f else arrived_at f.loc f.tag f.packet
-next_at net config f (Some Switch) = at_switch net f (acting config.rules f)
-next_at net config f (Some Middlebox) = at_middlebox net f (processing config.processes f)
+next_at net config f (Some Switch) = at_switch net f (acting_rule config.rules f)
+next_at net config f (Some Middlebox) = at_middlebox net f (acting_process config.processes f)
 
 -- where a frame goes
 abbrev pub next : Network → Config → Frame → Next
 next net config f = next_at net config f (kind_of net f.loc)
 
--- The packet after a step. Functions may change it, and of what they do only this is known: eth.dst stays.
+-- The packet after a step. Functions may change it, and of what they do only this is known: eth.dst
+-- stays.
 abbrev pub MayBecome : Option Kind → Packet → Packet → Type 0
 MayBecome None p q = q ≡ p
 MayBecome (Some (Host address)) p q = q ≡ p
@@ -222,16 +225,17 @@ MayBecome (Some Middlebox) p q = IsPacket q × (q.eth_dst ≡ p.eth_dst)
 
 -- a hop from one frame to the next, with what it records
 pub record Hops (net : Network) (config : Config) (f : Frame) (visit : Visit) (g : Frame) : Type 0 where
-  pub wire : Wire
-  pub goes : next net config f ≡ Goes wire g.tag visit
-  pub loc : g.loc ≡ wire.to
-  pub port : g.port ≡ wire.in_port
+  pub link : DirectedLink
+  pub goes : next net config f ≡ Forwards link g.tag visit
+  pub loc : g.loc ≡ link.to
+  pub port : g.port ≡ link.in_port
   pub packet : MayBecome (kind_of net f.loc) f.packet g.packet
 
 -- the hops from f to g, with their records
 abbrev pub Reaches : Network → Config → Frame → List Visit → Frame → Type 0
 Reaches net config f [] g = g ≡ f
-Reaches net config f (visit ∷ visits) g = (h : Frame) × Hops net config f visit h × Reaches net config h visits g
+Reaches net config f (visit ∷ visits) g =
+    (h : Frame) × Hops net config f visit h × Reaches net config h visits g
 
 -- a whole run from f to an end
 pub record Runs (net : Network) (config : Config) (f : Frame) (visits : List Visit) (end : End) : Type 0 where

@@ -6,7 +6,7 @@ use Rattle.merlin_model.specs.declared.network.Kind.{Kind}
 use Rattle.merlin_model.specs.declared.network.Kind.TheVariants.{Host, Switch, Middlebox}
 use Rattle.merlin_model.specs.declared.network.Location.{Location}
 use Rattle.merlin_model.specs.declared.network.Link.{Link}
-pub use Rattle.merlin_model.specs.declared.network.Wire.{Wire}
+pub use Rattle.merlin_model.specs.declared.network.DirectedLink.{DirectedLink}
 use Rattle.merlin_model.specs.declared.network.FnDecl.{FnDecl}
 use Rattle.merlin_model.specs.Packets.{Packet, source_of, destination_of}
 
@@ -54,27 +54,36 @@ pub record IsProper (net : Network) (p : Packet) (s d : ℕ) : Type 0 where
   pub source : address_of net s ≡ Some (source_of p)
   pub destination : address_of net d ≡ Some (destination_of p)
 
+-- a link as it is seen from its end a, and from its end b
+abbrev pub from_a : Link → DirectedLink
+from_a link =
+    record { from = link.a; out_port = link.aport; to = link.b; in_port = link.bport; capacity = link.capacity; back = link.back; weight = link.weight }
+
+abbrev pub from_b : Link → DirectedLink
+from_b link =
+    record { from = link.b; out_port = link.bport; to = link.a; in_port = link.aport; capacity = link.back; back = link.capacity; weight = link.weight }
+
 -- both directions of each link, the one from a to b first
-abbrev pub wires_of : List Link → List Wire
-wires_of [] = []
-wires_of (link ∷ links) =
-    record { from = link.a; out_port = link.aport; to = link.b; in_port = link.bport; capacity = link.capacity }
-    ∷ record { from = link.b; out_port = link.bport; to = link.a; in_port = link.aport; capacity = link.capacity }
-    ∷ wires_of links
+abbrev pub directed_links_of : List Link → List DirectedLink
+directed_links_of [] = []
+directed_links_of (link ∷ links) =
+    from_a link ∷ from_b link
+    ∷ directed_links_of links
 
-abbrev pub wires : Network → List Wire
-wires net = wires_of net.links
+abbrev pub directed_links : Network → List DirectedLink
+directed_links net = directed_links_of net.links
 
--- the other direction of a wire's link
-abbrev pub back_of : Wire → Wire
-back_of w = record { from = w.to; out_port = w.in_port; to = w.from; in_port = w.out_port; capacity = w.capacity }
+-- the same link seen from its other end
+abbrev pub back_of : DirectedLink → DirectedLink
+back_of w =
+    record { from = w.to; out_port = w.in_port; to = w.from; in_port = w.out_port; capacity = w.back; back = w.capacity; weight = w.weight }
 
--- a wire of the network leads from the one location to the other
+-- a directed link of the network leads from the one location to the other
 pub record AreLinked (net : Network) (from to : ℕ) : Type 0 where
-  pub wire : Wire
-  pub present : Contains (wires net) wire
-  pub starts : wire.from ≡ from
-  pub ends : wire.to ≡ to
+  pub link : DirectedLink
+  pub present : Contains (directed_links net) link
+  pub starts : link.from ≡ from
+  pub ends : link.to ≡ to
 
 -- R holds of each element and each later one
 abbrev pub Pairwise : {X : Type 0} → (X → X → Type 0) → List X → Type 0
@@ -85,21 +94,33 @@ Pairwise R (x ∷ xs) = AllByRecursion (R x) xs × Pairwise R xs
 abbrev pub AreDifferent : {X : Type 0} → List X → Type 0
 AreDifferent xs = Pairwise (λ u v. u ≢ v) xs
 
--- the wires that leave a location
-abbrev pub wires_from : Network → ℕ → List Wire
-wires_from net loc = filter (λ wire. wire.from == loc) (wires net)
+-- the directed links that leave a location
+abbrev pub links_from : Network → ℕ → List DirectedLink
+links_from net loc = filter (λ link. link.from == loc) (directed_links net)
+
+-- A directed link leads from one location to another by ports from 1 on, carries something, and has
+-- a weight.
+abbrev pub JoinsLocations : Network → DirectedLink → Type 0
+JoinsLocations net link =
+    (link.from < length net.locations) × (link.from ≢ link.to) × (0 < link.out_port)
+    × (0 < link.capacity) × (0 < link.weight)
 
 -- What a network that is read from a file keeps.
 pub record IsNetwork (net : Network) : Type 0 where
-  -- a link joins two different locations by ports from 1 on, and carries something
-  pub ends : AllByRecursion (λ wire. (wire.from < length net.locations) × (wire.from ≢ wire.to) × (0 < wire.out_port) × (0 < wire.capacity)) (wires net)
+  -- a link joins two different locations by ports from 1 on, carries something each way, and has a
+  -- weight
+  pub ends : AllByRecursion (JoinsLocations net) (directed_links net)
   -- each port of a location is that of one link, and two locations have at most one link
-  pub ports : Pairwise (λ v w. v.from ≡ w.from → (v.out_port ≢ w.out_port) × (v.to ≢ w.to)) (wires net)
+  pub ports :
+      Pairwise (λ v w. v.from ≡ w.from → (v.out_port ≢ w.out_port) × (v.to ≢ w.to)) (directed_links net)
   -- no two hosts share an address
-  pub addresses : (h k : ℕ) (a b : HostAddress) → address_of net h ≡ Some a → address_of net k ≡ Some b → (a.eth ≡ b.eth) ⊎ (a.ip ≡ b.ip) → h ≡ k
+  pub addresses : (h k : ℕ) (a b : HostAddress) → address_of net h ≡ Some a →
+      address_of net k ≡ Some b → (a.eth ≡ b.eth) ⊎ (a.ip ≡ b.ip) → h ≡ k
   -- a host has exactly one link, to a switch
-  pub host_link : (h : ℕ) → IsHost net h → (wire : Wire) × (wires_from net h ≡ wire ∷ []) × IsSwitch net wire.to
+  pub host_link : (h : ℕ) → IsHost net h → (link : DirectedLink) × (links_from net h ≡ link ∷ [])
+      × IsSwitch net link.to
   -- functions are placed at middleboxes, at each at most once
-  pub placed : AllByRecursion (λ f. AllByRecursion (IsMiddlebox net) f.places × AreDifferent f.places) net.functions
+  pub placed :
+      AllByRecursion (λ f. AllByRecursion (IsMiddlebox net) f.places × AreDifferent f.places) net.functions
   -- no two locations or functions share a name
   pub names : AreDifferent (names_of net)

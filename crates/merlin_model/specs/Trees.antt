@@ -1,8 +1,9 @@
 -- Refuting trees: certificates that a program has no solution.
-use Rattle.std.specs.Prelude.{ℕ, ◌≡◌, refl, ◌≢◌, ◌≤◌, ◌<◌, ◌^◌, ◌==◌, Bool, true, false, ℤ, pos, ◌*ℤ◌, ◌<ℤ◌, nat_abs, List, [], ◌∷◌, ◌++◌, map, take, length, filter, Option, None, Some, slice_get, slice_set, slice_index_or}
+use Rattle.std.specs.Prelude.{ℕ, ◌≡◌, refl, ◌≢◌, ◌≤◌, ◌<◌, ◌==◌, Bool, true, false, ℤ, pos, ◌*ℤ◌, ◌<ℤ◌, nat_abs, List, [], ◌∷◌, ◌++◌, map, take, length, filter, Option, None, Some, slice_get, slice_set, slice_index_or}
 use Rattle.std.specs.List.{AllByRecursion, range_with_len, list_any}
 use Rattle.std.specs.List.Sorted.{IsStrictlyIncreasing}
 use Rattle.std.specs.Int.{int_min}
+use Rattle.merlin_model.specs.declared.limits.TheConstants.{MAX_WEIGHT}
 use Rattle.merlin_model.specs.declared.certificate.Weight.{Weight}
 use Rattle.merlin_model.specs.declared.certificate.Tree.{Tree, Leaf, Split, Split', Unclosed, end_of-Tree, more_of-Tree}
 use Rattle.merlin_model.specs.declared.certificate.Tree.TheBlock.{hidden-the_row-Tree-0}
@@ -19,7 +20,8 @@ fix box variable to = slice_set box variable (Some to)
 
 -- the point has the values that the box fixes
 abbrev pub IsInBox : List (Option Bool) → List Bool → Type 0
-IsInBox box point = (variable : ℕ) (to : Bool) → fixed_at box variable ≡ Some to → is_chosen point variable ≡ to
+IsInBox box point =
+    (variable : ℕ) (to : Bool) → fixed_at box variable ≡ Some to → is_chosen point variable ≡ to
 
 -- a variable that is not fixed and may be 1
 pub record IsOpen (program : Program) (box : List (Option Bool)) (variable : ℕ) : Type 0 where
@@ -43,7 +45,8 @@ weighted_coefficient program weights variable =
 abbrev pub weighted_right : Program → List Weight → ℤ
 weighted_right program weights = total (map (λ w. w.weight *ℤ (row_of program w).right) weights)
 
--- the least that a variable can add: its coefficient where it is fixed to 1, the lesser of that and 0 where it is open
+-- the least that a variable can add: its coefficient where it is fixed to 1, the lesser of that and
+-- 0 where it is open
 abbrev pub least_addition : Option Bool → Bool → ℤ → ℤ
 least_addition (Some true) upper z = z
 least_addition (Some false) upper z = pos 0
@@ -58,12 +61,14 @@ abbrev pub IsPositiveOnBounds : Bool → ℤ → Type 0
 IsPositiveOnBounds true z = z ≢ pos 0
 IsPositiveOnBounds false z = pos 0 <ℤ z
 
--- Weighted rows refute a box when no point of it can keep their left sides as low as their right sides.
+-- Weighted rows refute a box when no point of it can keep their left sides as low as their right
+-- sides.
 pub record RefutesBox (program : Program) (box : List (Option Bool)) (weights : List Weight) : Type 0 where
   pub ascend : IsStrictlyIncreasing (map (λ w. w.row) weights)
   pub exist : AllByRecursion (λ w. w.row < length program.rows) weights
-  pub small : AllByRecursion (λ w. nat_abs w.weight ≤ 2 ^ 60) weights
-  pub signs : AllByRecursion (λ w. IsPositiveOnBounds (row_of program w).is_equality w.weight) weights
+  pub small : AllByRecursion (λ w. nat_abs w.weight ≤ MAX_WEIGHT) weights
+  pub signs :
+      AllByRecursion (λ w. IsPositiveOnBounds (row_of program w).is_equality w.weight) weights
   pub exceeds : weighted_right program weights <ℤ least_value program box weights
 
 -- The nodes of a tree in preorder, each with its box.
@@ -84,6 +89,10 @@ pub nodes_of-Split : (variable : ℕ) (zero one : Tree) (box : List (Option Bool
     nodes_of (Split variable zero one) box ≡ (box, Split_node variable) ∷ (nodes_of zero (fix box variable false) ++ nodes_of one (fix box variable true))
 unfolding hidden-the_row-Tree-0 hidden
 nodes_of-Split variable zero one box = refl
+
+-- how many nodes a tree has, whatever its box
+abbrev pub node_count : Tree → ℕ
+node_count tree = length (nodes_of tree [])
 
 -- A leaf refutes its box, a split names an open variable, and no end is left open.
 abbrev pub IsSoundNode : Program → List (Option Bool) → Node → Type 0
@@ -116,7 +125,8 @@ pub record HasOpen (program : Program) (box : List (Option Bool)) : Type 0 where
 -- a box of the program, which fixes no variable to 1 that may not be 1
 pub record IsBox (program : Program) (box : List (Option Bool)) : Type 0 where
   pub size : length box ≡ variables program
-  pub within : (variable : ℕ) → fixed_at box variable ≡ Some true → is_chosen program.upper variable ≡ true
+  pub within : (variable : ℕ) → fixed_at box variable ≡ Some true →
+      is_chosen program.upper variable ≡ true
 
 abbrev pub is_open_end : Node → Bool
 is_open_end (Leaf_node weights) = false
@@ -126,7 +136,8 @@ is_open_end Open_end = true
 abbrev pub has_open_end : List (List (Option Bool) × Node) → Bool
 has_open_end nodes = list_any (λ node. is_open_end node.1) nodes
 
--- A leaf refutes its box, and where a box is split or left open it has an open variable and is not easy.
+-- A leaf refutes its box, and where a box is split or left open it has an open variable and is not
+-- easy.
 abbrev pub IsKeptNode : Program → (List (Option Bool) → Type 0) → List (Option Bool) → Node → Type 0
 IsKeptNode program easy box (Leaf_node weights) = RefutesBox program box weights
 IsKeptNode program easy box (Split_node variable) = IsOpen program box variable × (¬ easy box)

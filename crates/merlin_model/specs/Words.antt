@@ -24,8 +24,8 @@ neighbours (x ∷ y ∷ rest) = (x, y) ∷ neighbours (y ∷ rest)
 abbrev pub MayFollow : Network → Symbol × Symbol → Type 0
 MayFollow net pair = (pair.0.loc ≡ pair.1.loc) ⊎ AreLinked net pair.0.loc pair.1.loc
 
--- A walk from host s to host d: it begins with s, ends with d and is at no host in between, and each
--- symbol may follow the one before it.
+-- A walk from host s to host d: it begins with s, ends with d and is at no host in between, and
+-- each symbol may follow the one before it.
 pub record IsWalk (net : Network) (s d : ℕ) (w : List Symbol) : Type 0 where
   pub inner : List Symbol
   pub shape : w ≡ at s ∷ (inner ++ at d ∷ [])
@@ -37,15 +37,18 @@ pub record IsWalk (net : Network) (s d : ℕ) (w : List Symbol) : Type 0 where
 
 -- The same symbol by symbol.
 
--- the word goes on from x to host d: each symbol may follow the one before it, and none but the last is at a host
+-- the word goes on from x to host d: each symbol may follow the one before it, and none but the
+-- last is at a host
 abbrev pub GoesOn : Network → ℕ → Symbol → List Symbol → Type 0
 GoesOn net d x [] = ⊥
 GoesOn net d x (y ∷ []) = MayFollow net (x, y) × IsSymbol net y × (y ≡ at d)
-GoesOn net d x (y ∷ z ∷ rest) = MayFollow net (x, y) × IsSymbol net y × (¬ IsHost net y.loc) × GoesOn net d y (z ∷ rest)
+GoesOn net d x (y ∷ z ∷ rest) =
+    MayFollow net (x, y) × IsSymbol net y × (¬ IsHost net y.loc) × GoesOn net d y (z ∷ rest)
 
 abbrev pub WalksFrom : Network → ℕ → ℕ → List Symbol → Type 0
 WalksFrom net s d [] = ⊥
-WalksFrom net s d (x ∷ rest) = (x ≡ at s) × IsSymbol net x × IsHost net s × IsHost net d × GoesOn net d x rest
+WalksFrom net s d (x ∷ rest) =
+    (x ≡ at s) × IsSymbol net x × IsHost net s × IsHost net d × GoesOn net d x rest
 
 -- whether a step leads from u to v
 abbrev pub crosses : ℕ → ℕ → Symbol × Symbol → Bool

@@ -86,6 +86,20 @@ pub struct Rule {
     pub actions: Actions,
 }
 
+impl Rule {
+    /// An equal rule.
+    pub fn copy(&self, alloc: Global) -> Result<Self, OutOfMemory>
+        ensures { IfOk result (λ copy. copy ≡ self.now) }
+    {
+        Ok(Rule {
+            loc: self.loc,
+            priority: self.priority,
+            fits: self.fits,
+            actions: Actions::from_slice(alloc, self.actions.as_slice())?,
+        })
+    }
+}
+
 /// A line of a middlebox: the functions that run on frames with this tag and destination, and how they leave. Queue 0 means none.
 #[derive(Drop)]
 pub struct Process {
@@ -96,6 +110,23 @@ pub struct Process {
     pub next_tag: u16,
     pub port: u16,
     pub queue: u16,
+}
+
+impl Process {
+    /// An equal line.
+    pub fn copy(&self, alloc: Global) -> Result<Self, OutOfMemory>
+        ensures { IfOk result (λ copy. copy ≡ self.now) }
+    {
+        Ok(Process {
+            loc: self.loc,
+            tag: self.tag,
+            eth_dst: self.eth_dst,
+            functions: Items::from_slice(alloc, self.functions.as_slice())?,
+            next_tag: self.next_tag,
+            port: self.port,
+            queue: self.queue,
+        })
+    }
 }
 
 /// A queue of a port, with its rate in kbit/s.

@@ -5,6 +5,7 @@
 pub mod certificate;
 pub mod config;
 pub mod laws;
+pub mod limits;
 pub mod name;
 pub mod network;
 pub mod policy;

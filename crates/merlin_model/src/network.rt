@@ -34,7 +34,8 @@ pub struct Location {
     pub kind: Kind,
 }
 
-/// A link between two locations by number, each with its port. The capacity is in kbit/s, and counts for each direction.
+/// A link between two locations by number, each with its port. `capacity` is what it carries from `a` to `b`, and `back` from `b` to `a`,
+/// both in kbit/s. `weight`, from 1 to 1000, is what each kbit/s costs that is reserved on it.
 #[derive(Clone, Copy)]
 pub struct Link {
     pub a: usize,
@@ -42,16 +43,21 @@ pub struct Link {
     pub b: usize,
     pub bport: u16,
     pub capacity: u64,
+    pub back: u64,
+    pub weight: u32,
 }
 
-/// One direction of a link: from a port of one location to a port of another.
+/// A link as it is seen from one end: from a port of one location to a port of another. `capacity` is that of this direction, and `back` that of
+/// the other, both in kbit/s.
 #[derive(Clone, Copy)]
-pub struct Wire {
+pub struct DirectedLink {
     pub from: usize,
     pub out_port: u16,
     pub to: usize,
     pub in_port: u16,
     pub capacity: u64,
+    pub back: u64,
+    pub weight: u32,
 }
 
 /// A packet function: its name, the middleboxes where it is placed, and the fields that it sets.

@@ -15,11 +15,24 @@ pub enum Field {
     Dport,
 }
 
-/// A test on one field, or on a port under a protocol.
+/// A test: a field has a value, a port has one under a protocol, or an IPv4 address is in the block of addresses (RFC 4632) whose first `length`
+/// bits are those of `value`. A block has a length up to 31, and its further bits are 0.
 #[derive(Clone, Copy)]
 pub enum Test {
-    Is { field: Field, value: u64 },
-    Port { proto: u8, field: Field, value: u16 },
+    Is {
+        field: Field,
+        value: u64,
+    },
+    Port {
+        proto: u8,
+        field: Field,
+        value: u16,
+    },
+    Within {
+        field: Field,
+        value: u64,
+        length: u8,
+    },
 }
 
 /// A predicate on packets. `All` of none holds always, `AnyOf` of none never.

@@ -1,5 +1,6 @@
 pub mod Runs
 pub mod Signs
+pub mod Prefixes
 pub mod OnePiece
 pub mod Fronts
 pub mod Cuts

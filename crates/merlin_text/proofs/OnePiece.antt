@@ -14,6 +14,7 @@ use Rattle.merlin_text.specs.declared.token.Sign.TheVariants as signs
 use Rattle.merlin_text.specs.Tokens.{IsBlank, IsRunByte, BeginsWith, BeginsNoMac, IsLexeme, Sort, gap, verbal, numeral, mac, sign, sort_of, GoesTo, IsPiece, spelling, written}
 use Rattle.merlin_text.proofs.Runs.{one_run, heads, weaker, begins_append, begins_some}
 use Rattle.merlin_text.proofs.Signs.{one_sign}
+use Rattle.merlin_text.proofs.Prefixes.{IsPrefix-one, number_no_prefix, rate_no_prefix, ip_no_prefix}
 
 -- no blank, no `#`, no letter and no digit
 pub record IsOther (c : ℕ) : Type 0 where
@@ -106,6 +107,7 @@ start_of (Some (kinds.Word _)) text rest ne p = p.goes_to.first
 start_of (Some (kinds.Number _)) text rest ne p = p.goes_to.first
 start_of (Some (kinds.Rate _)) text rest ne p = p.goes_to.first
 start_of (Some (kinds.Ip _)) text rest ne p = p.goes_to.first
+start_of (Some (kinds.Prefix _ _)) text rest ne p = p.goes_to.first
 start_of (Some (kinds.Mac _)) text rest ne p = absurd (ne refl)
 start_of (Some (kinds.Sign s)) text rest ne p = subst (BeginsWith IsOther) (sym p.lexeme) (sign_start s)
 
@@ -158,6 +160,7 @@ no_gap (kinds.Number _) e = cc
 no_gap (kinds.Rate _) e = cc
 no_gap (kinds.Mac _) e = cc
 no_gap (kinds.Ip _) e = cc
+no_gap (kinds.Prefix _ _) e = cc
 no_gap (kinds.Sign _) e = cc
 
 -- Pieces of one text and one sort are of one kind.
@@ -176,6 +179,17 @@ one_kind (Some (kinds.Rate a)) (Some (kinds.Ip b)) text same p q = absurd (rate_
 one_kind (Some (kinds.Ip a)) (Some (kinds.Number b)) text same p q = absurd (decimal_no_ip text b a q.0 p)
 one_kind (Some (kinds.Ip a)) (Some (kinds.Rate b)) text same p q = absurd (rate_no_ip text b a q p)
 one_kind (Some (kinds.Ip a)) (Some (kinds.Ip b)) text same p q = ap (λ x. Some (kinds.Ip x)) (IsIp-one text a b p q)
+one_kind (Some (kinds.Number a)) (Some (kinds.Prefix w m)) text same p q = absurd (number_no_prefix text a w m p.0 q)
+one_kind (Some (kinds.Rate a)) (Some (kinds.Prefix w m)) text same p q = absurd (rate_no_prefix text a w m p q)
+one_kind (Some (kinds.Ip a)) (Some (kinds.Prefix w m)) text same p q = absurd (ip_no_prefix text a w m p q)
+one_kind (Some (kinds.Prefix v n)) (Some (kinds.Number b)) text same p q = absurd (number_no_prefix text b v n q.0 p)
+one_kind (Some (kinds.Prefix v n)) (Some (kinds.Rate b)) text same p q = absurd (rate_no_prefix text b v n q p)
+one_kind (Some (kinds.Prefix v n)) (Some (kinds.Ip b)) text same p q = absurd (ip_no_prefix text b v n q p)
+one_kind (Some (kinds.Prefix v n)) (Some (kinds.Prefix w m)) text same p q =
+    let one = IsPrefix-one text v n w m p q in
+    let value : v ≡ w = one.0 in
+    let bits : n ≡ m = one.1 in
+    cc
 one_kind (Some (kinds.Mac a)) (Some (kinds.Mac b)) text same p q = ap (λ x. Some (kinds.Mac x)) (IsMac-one text a b p q)
 one_kind (Some (kinds.Sign a)) (Some (kinds.Sign b)) text same p q =
     ap (λ x. Some (kinds.Sign x)) (one_sign a b [] [] (λ _. tt) (λ _. tt) (ap (λ t. t ++ []) (sym p ∙ q)))

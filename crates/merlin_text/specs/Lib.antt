@@ -1,3 +1,4 @@
 pub mod Tokens
 pub mod Fronts
 pub mod Rest
+pub mod Lexemes

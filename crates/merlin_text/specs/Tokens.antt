@@ -77,6 +77,15 @@ IsNameRun = IsRun IsLetter IsNameByte
 abbrev pub IsDigitRun : List ℕ → List ℕ → Type 0
 IsDigitRun = IsRun IsDigit IsRunByte
 
+-- an address, `/` and a number to 32: that address and that number
+pub record IsPrefix (text : List ℕ) (value bits : ℕ) : Type 0 where
+  pub address : List ℕ
+  pub number : List ℕ
+  pub whole : text ≡ address ++ 47 ∷ number
+  pub ip : IsIp address value
+  pub decimal : IsDecimal number bits
+  pub few : bits ≤ 32
+
 -- a Mac, not followed by a letter, digit, underscore or `:`
 pub record IsMacAt (mac rest : List ℕ) (n : ℕ) : Type 0 where
   pub is : IsMac mac n
@@ -95,6 +104,7 @@ IsLexeme (Some (kinds.Number n)) text = IsDecimal text n × (n ≤ 65535)
 IsLexeme (Some (kinds.Rate rate)) text = IsRate text rate
 IsLexeme (Some (kinds.Mac mac)) text = IsMac text mac
 IsLexeme (Some (kinds.Ip ip)) text = IsIp text ip
+IsLexeme (Some (kinds.Prefix value bits)) text = IsPrefix text value bits
 IsLexeme (Some (kinds.Sign sign)) text = text ≡ written sign
 
 -- the sorts of pieces, by how far they go
@@ -113,6 +123,7 @@ sort_of (Some (kinds.Number _)) = numeral
 sort_of (Some (kinds.Rate _)) = numeral
 sort_of (Some (kinds.Mac _)) = mac
 sort_of (Some (kinds.Ip _)) = numeral
+sort_of (Some (kinds.Prefix _ _)) = numeral
 sort_of (Some (kinds.Sign _)) = sign
 
 -- how far a piece goes: a blank is one byte, `:` stands only where `:=` doesn't

@@ -1,7 +1,7 @@
 // The first piece of a text: a blank, a comment or a lexeme.
 ghost use Rattle.std.specs.Prelude.{◌≡◌, ◌≢◌, ◌<◌, ◌≤◌, ◌↔◌, ℕ, List, [], ◌∷◌, ◌++◌, All, length, take, drop, slice_index, IsTrue, IfSome, IfNone, Some, codes};
 ghost use Rattle.merlin_base.specs.Lexemes.{IsLetter, IsDigit, IsDecimal};
-ghost use Rattle.merlin_text.specs.Tokens.{EndsBefore, IsBlank, IsMacAt, BeginsNoMac, BeginsNoPiece, IsLexeme, sort_of, verbal, numeral, spelling, written};
+ghost use Rattle.merlin_text.specs.Tokens.{EndsBefore, IsBlank, IsMacAt, BeginsNoMac, BeginsNoPiece, IsLexeme, IsPrefix, sort_of, verbal, numeral, spelling, written};
 ghost use Rattle.merlin_text.specs.declared.token.Kind.{Kind};
 ghost use Rattle.merlin_text.specs.declared.token.Kind.TheVariants as kinds;
 ghost use Rattle.merlin_text.specs.declared.token.Word.{Word};
@@ -11,6 +11,7 @@ ghost use Rattle.merlin_text.specs.Fronts.{GoesOn, IsFront};
 use crate::{Kind, Sign, Word};
 use merlin_base::{
     ip_value, is_digit, is_letter, is_name, is_name_byte, mac_value, rate_value, read_decimal,
+    split_at_byte,
 };
 
 // The sorts of bytes that go on together.
@@ -123,8 +124,10 @@ fn word_of(text: &[u8]) -> Option<Word>
 
 // What a run of name bytes is.
 fn verbal_kind(text: &[u8]) -> Option<Kind>
-    ensures some { IfSome result (λ kind. IsLexeme (Some kind) text.now × (sort_of (Some kind) ≡ verbal)) }
-    ensures none { IfNone result ((kind : Kind) → sort_of (Some kind) ≡ verbal → IsLexeme (Some kind) text.now → ⊥) }
+    ensures some { IfSome result (λ kind. IsLexeme (Some kind) text.now ×
+        (sort_of (Some kind) ≡ verbal)) }
+    ensures none { IfNone result ((kind : Kind) → sort_of (Some kind) ≡ verbal →
+        IsLexeme (Some kind) text.now → ⊥) }
 {
     match word_of(text) {
         Some(word) => Some(Kind::Word(word)),
@@ -145,10 +148,35 @@ fn small_number(text: &[u8]) -> Option<u32>
     Some(number as u32)
 }
 
+// The number of a text, to 32.
+fn prefix_length(text: &[u8]) -> Option<u8>
+    ensures some { IfSome result (λ n. IsDecimal text.now n × (n ≤ 32)) }
+    ensures none { IfNone result ((n : ℕ) → IsDecimal text.now n → n ≤ 32 → ⊥) }
+{
+    let number = read_decimal(text)?;
+    if number > 32 {
+        return None;
+    }
+    Some(number as u8)
+}
+
+// The address and the length of a block of addresses, as they are written.
+fn prefix_value(text: &[u8]) -> Option<(u32, u8)>
+    ensures some { IfSome result (λ r. IsPrefix text.now r.0 r.1) }
+    ensures none { IfNone result ((value bits : ℕ) → IsPrefix text.now value bits → ⊥) }
+{
+    let (address, number) = split_at_byte(text, b'/')?;
+    let value = ip_value(address)?;
+    let length = prefix_length(number)?;
+    Some((value, length))
+}
+
 // What a run that begins with a digit is.
 fn numeral_kind(text: &[u8]) -> Option<Kind>
-    ensures some { IfSome result (λ kind. IsLexeme (Some kind) text.now × (sort_of (Some kind) ≡ numeral)) }
-    ensures none { IfNone result ((kind : Kind) → sort_of (Some kind) ≡ numeral → IsLexeme (Some kind) text.now → ⊥) }
+    ensures some { IfSome result (λ kind. IsLexeme (Some kind) text.now ×
+        (sort_of (Some kind) ≡ numeral)) }
+    ensures none { IfNone result ((kind : Kind) → sort_of (Some kind) ≡ numeral →
+        IsLexeme (Some kind) text.now → ⊥) }
 {
     if let Some(number) = small_number(text) {
         Some(Kind::Number(number))
@@ -156,6 +184,8 @@ fn numeral_kind(text: &[u8]) -> Option<Kind>
         Some(Kind::Rate(rate))
     } else if let Some(ip) = ip_value(text) {
         Some(Kind::Ip(ip))
+    } else if let Some((value, length)) = prefix_value(text) {
+        Some(Kind::Prefix { value, length })
     } else {
         None
     }
@@ -189,7 +219,8 @@ fn short_sign(byte: u8) -> Option<Sign>
 // The sign of two bytes at the front of a text.
 fn long_sign(text: &[u8]) -> Option<Sign>
     requires { BeginsNoMac text.now }
-    ensures some { IfSome result (λ sign. IsFront text.now (length (written sign)) (Some (kinds.Sign sign))) }
+    ensures some { IfSome result (λ sign.
+        IsFront text.now (length (written sign)) (Some (kinds.Sign sign))) }
     ensures no_becomes { IfNone result (take 2 text.now ≢ codes ":=") }
     ensures no_arrow { IfNone result (take 2 text.now ≢ codes "->") }
 {
@@ -210,7 +241,8 @@ fn long_sign(text: &[u8]) -> Option<Sign>
 fn front_sign(text: &[u8]) -> Option<Sign>
     requires some { 0 < length text.now }
     requires no_mac { BeginsNoMac text.now }
-    ensures some { IfSome result (λ sign. IsFront text.now (length (written sign)) (Some (kinds.Sign sign))) }
+    ensures some { IfSome result (λ sign.
+        IsFront text.now (length (written sign)) (Some (kinds.Sign sign))) }
     ensures none { IfNone result ((sign : Sign) (rest : List ℕ) → text.now ≢ written sign ++ rest) }
 {
     match long_sign(text) {

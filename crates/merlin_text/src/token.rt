@@ -82,6 +82,8 @@ pub enum Kind {
     Mac(u64),
     /// An IPv4 address.
     Ip(u32),
+    /// A block of IPv4 addresses as it is written (RFC 4632): an address, whose bits past the length may be other than 0, and the length, up to 32 bits.
+    Prefix { value: u32, length: u8 },
     /// A sign.
     Sign(Sign),
 }
@@ -99,7 +101,7 @@ pub enum TokenFault {
     /// No token begins with the byte at this place, or a name of more than 32 characters does.
     #[error("a byte that begins no token at {at}")]
     BadByte { at: usize },
-    /// What begins with the digit at this place is no number, rate or address.
+    /// What begins with the digit at this place is no number, rate, address or block of addresses.
     #[error("no number, rate or address at {at}")]
     BadNumber { at: usize },
     /// Memory ran out.

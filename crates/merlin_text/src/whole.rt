@@ -14,8 +14,10 @@ pub fn tokens(alloc: Global, bytes: &[u8]) -> Result<Vec<Token>, TokenFault>
     ensures tokens { IfOk result (λ tokens. AreTokens bytes.now tokens.items) }
     ensures fault { IfErr result (IsFault bytes.now) }
     ensures slices { IfOk result (λ tokens. AreSlices bytes.now 0 tokens.items) }
-    ensures only { (tokens : List Token) → AreTokens bytes.now tokens → MatchResult result (λ kept. kept.items ≡ tokens) (λ fault. fault ≡ faults.OutOfMemory) }
-    ensures only_fault { (fault : TokenFault) → IsFault bytes.now fault → (fault ≡ faults.OutOfMemory) ⊎ (result ≡ Err fault) ⊎ (result ≡ Err faults.OutOfMemory) }
+    ensures only { (tokens : List Token) → AreTokens bytes.now tokens →
+        MatchResult result (λ kept. kept.items ≡ tokens) (λ fault. fault ≡ faults.OutOfMemory) }
+    ensures only_fault { (fault : TokenFault) → IsFault bytes.now fault →
+        (fault ≡ faults.OutOfMemory) ⊎ (result ≡ Err fault) ⊎ (result ≡ Err faults.OutOfMemory) }
 {
     match scan(bytes) {
         Ok(tokens) => kept(alloc, tokens),

@@ -66,8 +66,8 @@ pub record IsFirstWrong (text : List ℕ) (at : ℕ) : Type 0 where
   pub place : at + length_from number (parts_of text) ≡ length text
 
 -- the place that a fault names
-abbrev pub place_of : PacketFault → ℕ
-place_of (BadPacket at) = at
+abbrev pub fault_place : PacketFault → ℕ
+fault_place (BadPacket at) = at
 
 -- a packet as it is printed, with Macs in lower case
 abbrev pub packet_text : Packet → List ℕ

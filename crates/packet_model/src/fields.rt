@@ -3,7 +3,7 @@
 ghost use Rattle.std.specs.Prelude.{◌≡◌, ◌↔◌, IsTrue, IfSome, IfNone};
 ghost use Rattle.merlin_model.specs.Packets.{IsPacket, field_of};
 ghost use Rattle.merlin_model.specs.Predicates.{IsInRange};
-ghost use Rattle.packet_model.specs.Fields.{has_ports, packet_with, IsBetween};
+ghost use Rattle.packet_model.specs.Fields.{has_ports, packet_with, IsBetween, TellsProper};
 
 use merlin_model::network::HostAddress;
 use merlin_model::policy::Field;
@@ -27,11 +27,35 @@ impl Model for Packet {
 
     ghost Value = { Header };
 
-    ghost view = { λ a. record { eth_src = a.eth_src; eth_dst = a.eth_dst; ip_src = a.ip_src; ip_dst = a.ip_dst; proto = a.proto; sport = a.sport; dport = a.dport } };
+    ghost view = { λ a. record {
+      eth_src = a.eth_src;
+      eth_dst = a.eth_dst;
+      ip_src = a.ip_src;
+      ip_dst = a.ip_dst;
+      proto = a.proto;
+      sport = a.sport;
+      dport = a.dport;
+    } };
 
-    ghost invariant = { λ a. IsPacket (record { eth_src = a.eth_src; eth_dst = a.eth_dst; ip_src = a.ip_src; ip_dst = a.ip_dst; proto = a.proto; sport = a.sport; dport = a.dport }) };
+    ghost invariant = { λ a. IsPacket (record {
+      eth_src = a.eth_src;
+      eth_dst = a.eth_dst;
+      ip_src = a.ip_src;
+      ip_dst = a.ip_dst;
+      proto = a.proto;
+      sport = a.sport;
+      dport = a.dport;
+    }) };
 
-    ghost inverse = { λ p. record { eth_src = p.eth_src; eth_dst = p.eth_dst; ip_src = p.ip_src; ip_dst = p.ip_dst; proto = p.proto; sport = p.sport; dport = p.dport } };
+    ghost inverse = { λ p. record {
+      eth_src = p.eth_src;
+      eth_dst = p.eth_dst;
+      ip_src = p.ip_src;
+      ip_dst = p.ip_dst;
+      proto = p.proto;
+      sport = p.sport;
+      dport = p.dport;
+    } };
 }
 
 /// The packet with these fields. None where an Ethernet address has more than 48 bits, or where a port is not 0 under a
@@ -45,8 +69,25 @@ pub fn packet_of(
     sport: u16,
     dport: u16,
 ) -> Option<Packet>
-    ensures some { IfSome result (λ p. (p ≡ record { eth_src = eth_src; eth_dst = eth_dst; ip_src = ip_src; ip_dst = ip_dst; proto = proto; sport = sport; dport = dport }) × IsPacket p) }
-    ensures none { IfNone result (IsPacket (record { eth_src = eth_src; eth_dst = eth_dst; ip_src = ip_src; ip_dst = ip_dst; proto = proto; sport = sport; dport = dport }) → ⊥) }
+    ensures some { IfSome result (λ p. (p ≡ record {
+      eth_src = eth_src;
+      eth_dst = eth_dst;
+      ip_src = ip_src;
+      ip_dst = ip_dst;
+      proto = proto;
+      sport = sport;
+      dport = dport;
+    }) ×
+        IsPacket p) }
+    ensures none { IfNone result (IsPacket (record {
+      eth_src = eth_src;
+      eth_dst = eth_dst;
+      ip_src = ip_src;
+      ip_dst = ip_dst;
+      proto = proto;
+      sport = sport;
+      dport = dport;
+    }) → ⊥) }
 {
     if eth_src >= 1 << 48 || eth_dst >= 1 << 48 {
         return None;
@@ -75,7 +116,15 @@ pub(crate) fn has_ports(proto: u8) -> bool
 impl Packet {
     /// The packet whose fields are all 0.
     pub(crate) fn zero() -> Packet
-        ensures zero { result ≡ record { eth_src = 0; eth_dst = 0; ip_src = 0; ip_dst = 0; proto = 0; sport = 0; dport = 0 } }
+        ensures zero { result ≡ record {
+          eth_src = 0;
+          eth_dst = 0;
+          ip_src = 0;
+          ip_dst = 0;
+          proto = 0;
+          sport = 0;
+          dport = 0;
+        } }
         ensures packet { IsPacket result }
     {
         Packet {
@@ -130,9 +179,10 @@ impl Packet {
     }
 }
 
-/// Whether the packet is proper from one host to another, told apart by their addresses.
+/// Whether the packet is proper from one host to another: it bears both source addresses of the one and both destination addresses of the other.
 pub fn proper(packet: &Packet, src: HostAddress, dst: HostAddress) -> bool
-    ensures { IsTrue result ↔ IsBetween packet.now src dst }
+    ensures between { IsTrue result ↔ IsBetween packet.now src dst }
+    ensures in_network { TellsProper result packet.now src dst }
 {
     src != dst
         && packet.eth_src == src.eth

@@ -27,11 +27,11 @@ pub fn print_packet(alloc: Global, packet: &Packet) -> Result<Name, OutOfMemory>
         ..
     } = *packet;
     let numbers = format!(in alloc; "{proto},{sport},{dport}")?;
-    joined(alloc, &addresses, &numbers)
+    join_parts(alloc, &addresses, &numbers)
 }
 
 /// These parts, each with a comma after it, and a last part.
-fn joined(alloc: Global, parts: &[Name], last: &str) -> Result<Name, OutOfMemory>
+fn join_parts(alloc: Global, parts: &[Name], last: &str) -> Result<Name, OutOfMemory>
     ensures { IfOk result (λ text. text ≡ join_with_byte 44 (parts.now ++ last.now ∷ [])) }
 {
     let mut text = Vec::new(alloc);

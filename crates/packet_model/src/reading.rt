@@ -4,7 +4,7 @@ ghost use Rattle.std.specs.Prelude.{◌≡◌, ℕ, ◌∷◌, ◌<◌, length, 
 ghost use Rattle.merlin_model.specs.Packets.{Packet as Header, IsPacket, field_of};
 ghost use Rattle.merlin_model.specs.Predicates.{IsPort};
 ghost use Rattle.packet_model.specs.Fields.{packet_with};
-ghost use Rattle.packet_model.specs.Texts.{IsValueText, IsPacketText, IsFirstWrong, parts_of, later_parts, place_of};
+ghost use Rattle.packet_model.specs.Texts.{IsValueText, IsPacketText, IsFirstWrong, parts_of, later_parts, fault_place};
 ghost use Rattle.packet_model.specs.declared.reading.PacketFault.TheVariants.{BadPacket};
 
 use crate::fields::{Packet, packet_of};
@@ -22,7 +22,7 @@ pub enum PacketFault {
 /// the text where a comma is missing, and the comma before whatever follows the seventh part.
 pub fn parse_packet(text: &[u8]) -> Result<Packet, PacketFault>
     ensures packet { IfOk result (IsPacketText text.now) }
-    ensures place { IfErr result (λ fault. IsFirstWrong text.now (place_of fault)) }
+    ensures place { IfErr result (λ fault. IsFirstWrong text.now (fault_place fault)) }
     ensures only { (p : Header) → IsPacketText text.now p → result ≡ Ok p }
     ensures only_place { (at : ℕ) → IsFirstWrong text.now at → result ≡ Err (BadPacket at) }
 {
@@ -74,8 +74,12 @@ fn first_part(text: &[u8]) -> (&[u8], Option<&[u8]>)
 /// have.
 fn read_field(packet: &Packet, field: Field, part: &[u8]) -> Option<Packet>
     ensures is_packet { IfSome result IsPacket }
-    ensures some { IfSome result (λ read. (read ≡ packet_with packet.now field (field_of field read)) × IsValueText field part.now (field_of field read)) }
-    ensures none { IfNone result ((p : Header) → IsPacket p → (IsPort field → p.proto ≡ packet.now.proto) → IsValueText field part.now (field_of field p) → ⊥) }
+    ensures some { IfSome result (λ read.
+        (read ≡ packet_with packet.now field (field_of field read))
+        × IsValueText field part.now (field_of field read)) }
+    ensures none { IfNone result ((p : Header) → IsPacket p →
+        (IsPort field → p.proto ≡ packet.now.proto) →
+        IsValueText field part.now (field_of field p) → ⊥) }
 {
     let value = field_value(field, part)?;
     let read = packet.with(field, value);

@@ -2,7 +2,7 @@
 use Rattle.std.proofs.Common.{◌≡◌, ℕ, ◌+◌, ◌≤◌, ◌<◌, Bool, true, false, ◌&&◌, nat_lt, List, length, Option, None, Some, slice_get, refl, sym, ◌∙◌, ap, subst, arith, below_more}
 use Rattle.std.proofs.lemmas.Option.{slice_get_within}
 use Rattle.merlin_model.specs.declared.config.Rule.{Rule}
-use Rattle.merlin_model.specs.Machine.{Frame, is_for, acting, ActsAt}
+use Rattle.merlin_model.specs.Machine.{Frame, is_for, acting_rule, ActsAt}
 use Rattle.merlin_model.proofs.ActsAt.{acts}
 use Rattle.merlin_model.proofs.Traces.{Some-inj}
 use Rattle.packet_trace.specs.Fitting.{NoneFits, IsBestBelow, beats}
@@ -80,9 +80,9 @@ module _ (rules : List Rule) (f : Frame) where
   none_of_all none j q e = none j (slice_get_within rules j q e) q e
 
   -- no rule acts where none fits
-  pub none_acts : NoneFits rules f → acting rules f ≡ None
-  none_acts none = by (acting rules f) refl
+  pub none_acts : NoneFits rules f → acting_rule rules f ≡ None
+  none_acts none = by (acting_rule rules f) refl
     where
-      by : (o : Option Rule) → acting rules f ≡ o → o ≡ None
+      by : (o : Option Rule) → acting_rule rules f ≡ o → o ≡ None
       by None e = refl
       by (Some r) e = let at = acts rules f r e in absurd (false-true (sym (none at.0 r at.1.stands) ∙ at.1.fits))

@@ -1,5 +1,6 @@
 pub mod Best
 pub mod Runs
-pub mod Wired
+pub mod LinkedBoth
 pub mod Seen
 pub mod Reading
+pub mod ByFunctions

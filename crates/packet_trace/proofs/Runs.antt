@@ -4,36 +4,36 @@ use Rattle.merlin_model.specs.declared.network.Kind.{Kind}
 use Rattle.merlin_model.specs.declared.network.Kind.TheVariants.{Host, Switch, Middlebox}
 use Rattle.merlin_model.specs.declared.config.Config.{Config}
 use Rattle.merlin_model.specs.Packets.{Packet}
-use Rattle.merlin_model.specs.declared.network.Wire.{Wire}
+use Rattle.merlin_model.specs.declared.network.DirectedLink.{DirectedLink}
 use Rattle.merlin_model.specs.Networks.{Network, kind_of}
-use Rattle.merlin_model.specs.Machine.{Frame, Visit, End, Goes, Stops, next, next_at, MayBecome, Hops, Reaches, RunsWithin, at_middlebox, processing}
+use Rattle.merlin_model.specs.Machine.{Frame, Visit, End, Forwards, Stops, next, next_at, MayBecome, Hops, Reaches, RunsWithin, at_middlebox, acting_process}
 use Rattle.merlin_model.specs.Tests.{arrival}
 use Rattle.merlin_model.proofs.Traces.{within-stop, within-plain_hop, within-more}
 
-Stops-Goes : {w : Wire} {t : Option ℕ} {v : Visit} {e : End} → Stops e ≡ Goes w t v → ⊥
-Stops-Goes p = cc
+Stops-Forwards : {w : DirectedLink} {t : Option ℕ} {v : Visit} {e : End} → Stops e ≡ Forwards w t v → ⊥
+Stops-Forwards p = cc
 
 module _ (net : Network) (config : Config) (no_process : config.processes ≡ []) where
   abbrev IsThis : List Visit → End → List Visit → End → Type 0
   IsThis visits end records last = (records ≡ visits) × (last ≡ end)
 
   -- a frame hops from no middlebox
-  pub plain : (f : Frame) (o : Option Kind) (wire : Wire) (tag : Option ℕ) (visit : Visit) → next_at net config f o ≡ Goes wire tag visit → o ≢ Some Middlebox
-  plain f None wire tag visit e is = cc
-  plain f (Some (Host address)) wire tag visit e is = cc
-  plain f (Some Switch) wire tag visit e is = cc
-  plain f (Some Middlebox) wire tag visit e is = Stops-Goes (sym (ap (λ lines. at_middlebox net f (processing lines f)) no_process) ∙ e)
+  pub plain : (f : Frame) (o : Option Kind) (link : DirectedLink) (tag : Option ℕ) (visit : Visit) → next_at net config f o ≡ Forwards link tag visit → o ≢ Some Middlebox
+  plain f None link tag visit e is = cc
+  plain f (Some (Host address)) link tag visit e is = cc
+  plain f (Some Switch) link tag visit e is = cc
+  plain f (Some Middlebox) link tag visit e is = Stops-Forwards (sym (ap (λ lines. at_middlebox net f (acting_process lines f)) no_process) ∙ e)
 
-  unchanged : (o : Option Kind) (p q : Packet) → o ≢ Some Middlebox → MayBecome o p q → q ≡ p
+  pub unchanged : (o : Option Kind) (p q : Packet) → o ≢ Some Middlebox → MayBecome o p q → q ≡ p
   unchanged None p q away h = h
   unchanged (Some (Host address)) p q away h = h
   unchanged (Some Switch) p q away h = h
   unchanged (Some Middlebox) p q away h = absurd (away refl)
 
   -- the frame after a hop
-  arrived : (f : Frame) (visit : Visit) (g : Frame) (hop : Hops net config f visit g) → g ≡ arrival hop.wire g.tag f.packet
+  arrived : (f : Frame) (visit : Visit) (g : Frame) (hop : Hops net config f visit g) → g ≡ arrival hop.link g.tag f.packet
   arrived f visit g hop =
-      let away = plain f (kind_of net f.loc) hop.wire g.tag visit hop.goes in
+      let away = plain f (kind_of net f.loc) hop.link g.tag visit hop.goes in
       let same = unchanged (kind_of net f.loc) f.packet g.packet away hop.packet in
       λ i. record { loc = hop.loc i; port = hop.port i; tag = g.tag; packet = same i }
 
@@ -45,12 +45,12 @@ module _ (net : Network) (config : Config) (no_process : config.processes ≡ []
       subst (λ k. RunsWithin net config k f (IsThis rest end)) same (subst (λ x. RunsWithin net config n x (IsThis rest end)) e within)
   follows (visit ∷ visits) f g n rest end (h, hop, more) within =
       let later = subst (λ x. RunsWithin net config (length visits + n) x (IsThis (visits ++ rest) end)) (arrived f visit h hop) (follows visits h g n rest end more within) in
-      let whole = within-more net config (length visits + n) (arrival hop.wire h.tag f.packet) (IsThis (visits ++ rest) end) (λ records last. IsThis (visit ∷ (visits ++ rest)) end (visit ∷ records) last)
+      let whole = within-more net config (length visits + n) (arrival hop.link h.tag f.packet) (IsThis (visits ++ rest) end) (λ records last. IsThis (visit ∷ (visits ++ rest)) end (visit ∷ records) last)
       (λ records last same. (ap (λ tail. visit ∷ tail) same.0, same.1)) later in
       let count : suc (length visits + n) ≡ suc (length visits) + n = omega arith in
       subst (λ k. RunsWithin net config k f (IsThis (visit ∷ (visits ++ rest)) end)) count
-      (within-plain_hop net config (length visits + n) f hop.wire h.tag visit (IsThis (visit ∷ (visits ++ rest)) end)
-      (plain f (kind_of net f.loc) hop.wire h.tag visit hop.goes) hop.goes whole)
+      (within-plain_hop net config (length visits + n) f hop.link h.tag visit (IsThis (visit ∷ (visits ++ rest)) end)
+      (plain f (kind_of net f.loc) hop.link h.tag visit hop.goes) hop.goes whole)
 
   -- a frame that stops after some hops has this one run
   pub only_run : (visits : List Visit) (f g : Frame) (end : End) → Reaches net config f visits g → next net config g ≡ Stops end →

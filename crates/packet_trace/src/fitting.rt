@@ -1,4 +1,5 @@
-//! The rule that acts at a switch.
+//! The rule that acts at a switch, as OpenFlow has it: of the rules that fit, the first among those of the highest priority. One
+//! pass over the rules keeps the best so far.
 
 ghost use Rattle.std.specs.Prelude.{◌≡◌, ◌<◌, ◌+◌, length, IfSome, IfNone};
 ghost use Rattle.merlin_model.specs.declared.config.Rule.{Rule};
@@ -108,7 +109,8 @@ pub fn fitting_rule(
     tag: Option<u16>,
     packet: &Packet,
 ) -> Option<usize>
-    ensures some { IfSome result (λ place. (rule : Rule) × ActsAt rules.now (frame loc port tag packet.now) place rule) }
+    ensures some { IfSome result (λ place. (rule : Rule)
+        × ActsAt rules.now (frame loc port tag packet.now) place rule) }
     ensures none { IfNone result (NoneFits rules.now (frame loc port tag packet.now)) }
 {
     let frame = Frame {

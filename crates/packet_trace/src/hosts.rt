@@ -1,7 +1,8 @@
-//! What a host does with a packet that starts there.
+//! What a host does with a packet that starts there, as iptables reads its lists: OUTPUT goes by its first line that fits;
+//! POSTROUTING is read to its first RETURN that fits, and the last CLASSIFY before it that fits counts.
 
 ghost use Rattle.std.specs.Prelude.{◌≡◌, option_map};
-ghost use Rattle.merlin_model.specs.Machine.{agrees, host_fits, output_of, class_of, leaves, is_dropped_by, class_by, wire_of};
+ghost use Rattle.merlin_model.specs.Machine.{agrees, host_fits, output_of, class_of, leaves, is_dropped_by, class_by, uplink_of};
 ghost use Rattle.topology.specs.Look.{far_end};
 
 use crate::fitting::agrees;
@@ -85,7 +86,7 @@ pub(crate) fn class_by(lines: &[HostLine], host: usize, packet: &Packet) -> Opti
 
 /// The location and the port at the other end of the host's link. None where it has none.
 pub(crate) fn link_of(net: &Topology, host: usize) -> Option<(usize, u16)>
-    ensures { result ≡ option_map far_end (wire_of net.now host) }
+    ensures { result ≡ option_map far_end (uplink_of net.now host) }
 {
     for link in net.links() {
         if link.a == host {

@@ -1,7 +1,7 @@
 //! One step of the machine where no functions run.
 
 ghost use Rattle.std.specs.Prelude.{◌≡◌, ◌<◌, [], None, length, option_map};
-ghost use Rattle.merlin_model.specs.Machine.{next, act, over, wire_to, from_host as from_host_of, arrived_at, at_switch, acting};
+ghost use Rattle.merlin_model.specs.Machine.{next, act, send_over, link_to, from_host as from_host_of, arrived_at, at_switch, acting_rule};
 ghost use Rattle.packet_trace.specs.Fitting.{frame_of};
 ghost use Rattle.packet_trace.specs.Steps.{seen, stay, toward};
 
@@ -64,7 +64,9 @@ fn send(
     queue: Option<u16>,
 ) -> Next
     requires { frame.now.loc < length net.now.locations }
-    ensures { result ≡ seen (over frame.now.loc (wire_to net.now (frame_of frame.now) out) tag (stay frame.now.loc queue None)) }
+    ensures { result ≡ seen
+        (send_over frame.now.loc (link_to net.now (frame_of frame.now) out) tag
+        (stay frame.now.loc queue None)) }
 {
     let far = match out {
         Out::InPort => net.neighbour(frame.loc, frame.port),
@@ -93,7 +95,9 @@ fn act(alloc: Global, net: &Topology, frame: &Frame, actions: &[Action]) -> Next
 
 fn at_switch(alloc: Global, net: &Topology, config: &Config, frame: &Frame) -> Next
     requires { frame.now.loc < length net.now.locations }
-    ensures { result ≡ seen (at_switch net.now (frame_of frame.now) (acting config.now.rules (frame_of frame.now))) }
+    ensures { result ≡ seen
+        (at_switch net.now (frame_of frame.now)
+        (acting_rule config.now.rules (frame_of frame.now))) }
 {
     let rules = config.rules.as_slice();
     match fitting_rule(rules, frame.loc, frame.port, frame.tag, &frame.packet) {

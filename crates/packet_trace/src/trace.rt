@@ -3,7 +3,9 @@
 ghost use Rattle.std.specs.Prelude.{◌≡◌, [], IfOk};
 ghost use Rattle.merlin_model.specs.Networks.{IsHost};
 ghost use Rattle.merlin_model.specs.Machine.{start};
-ghost use Rattle.packet_trace.specs.Trace.{IsTrace};
+ghost use Rattle.merlin_model.specs.declared.network.FnDecl.{FnDecl};
+ghost use Rattle.merlin_model.specs.Packets.{Packet};
+ghost use Rattle.packet_trace.specs.Trace.{IsTrace, IsOnlyTrace};
 
 use crate::frame::Frame;
 use crate::step::{Next, step};
@@ -43,7 +45,7 @@ pub struct Trace {
 pub const MAX_HOPS: usize = 65536;
 
 /// Follows a packet that starts at a host, for at most 65,536 hops, through a configuration that has no line for a
-/// middlebox. `StillRunning` comes where each of the first 65,536 steps is a hop.
+/// middlebox. `StillRunning` comes where each of the first 65,536 steps is a hop. Whatever packet functions do, this is the trace.
 pub fn trace_plain(
     alloc: Global,
     net: &Topology,
@@ -53,7 +55,9 @@ pub fn trace_plain(
 ) -> Result<Trace, OutOfMemory>
     requires host { IsHost net.now host }
     requires no_process { config.now.processes ≡ [] }
-    ensures { IfOk result (IsTrace net.now config.now (start host packet)) }
+    ensures trace { (answer : FnDecl → Packet → Packet) →
+        IfOk result (IsTrace net.now config.now (λ decl p q. q ≡ answer decl p) (start host packet)) }
+    ensures only { IfOk result (IsOnlyTrace net.now config.now (start host packet)) }
 {
     // The network is lawful, so that each hop leads to a location.
     let _locations = net.locations();

@@ -1,17 +1,18 @@
 -- The tables of what was found are those of the path.
-use Rattle.std.proofs.Common.{◌≡◌, ◌<◌, inl, inr, ℕ, suc, zero, Bool, true, false, List, [], ◌∷◌, nat_lt, length, map, get_or, slice_get, Contains, Some, refl, sym, ◌∙◌, ap, subst, arith}
+use Rattle.std.proofs.Common.{◌≡◌, ◌≢◌, ◌<◌, inl, inr, ℕ, suc, zero, Bool, true, false, List, [], ◌∷◌, nat_lt, length, map, get_or, slice_get, Contains, Some, refl, sym, ◌∙◌, ap, subst, arith}
 use Rattle.std.specs.List.{AllByRecursion, flat_map}
 use Rattle.std.proofs.lemmas.Option.{get_or_from_slice_get}
 use Rattle.merlin_model.specs.declared.policy.Symbol.{Symbol}
 use Rattle.merlin_model.specs.declared.policy.Path.{Path, Nothing}
+use Rattle.merlin_model.specs.Networks.{AreDifferent}
 use Rattle.merlin_model.proofs.Members.{In, in_from}
 use Rattle.path_regex.specs.Normal.{normal_of}
 use Rattle.path_regex.specs.Derivatives.{derivative_of}
 use Rattle.path_automaton.specs.declared.classes.Classes.{Classes}
 use Rattle.path_automaton.specs.Classes.{AreClasses}
-use Rattle.path_automaton.specs.States.{IsOver, IsReached, all_noted, followers, AreDifferent, HasStates}
-use Rattle.path_automaton.specs.Followed.{AreFollowers, IsAfter, AreRows, HasMany}
-use Rattle.path_automaton.proofs.Noting.{all_noted-append}
+use Rattle.path_automaton.specs.States.{IsMadeOf, IsReached, with_all_new, followers, HasStates}
+use Rattle.path_automaton.specs.Followed.{AreApart, AreFollowers, IsReachedFrom, AreRows, HasMany}
+use Rattle.path_automaton.proofs.Noting.{with_all_new-append}
 use Rattle.path_automaton.proofs.Twins.{blind}
 
 -- Places in lists.
@@ -54,7 +55,7 @@ pub all-from : {X : Type 0} (P : X → Type 0) (xs : List X) → ((k : ℕ) (a :
 all-from P [] f = tt
 all-from P (x ∷ xs) f = (f 0 x refl, all-from P xs (λ k a e. f (suc k) a e))
 
-pub one-place : (forms : List Path) → AreDifferent forms → (i j : ℕ) (a : Path) → slice_get forms i ≡ Some a → slice_get forms j ≡ Some a → i ≡ j
+pub one-place : (forms : List Path) → AreApart forms → (i j : ℕ) (a : Path) → slice_get forms i ≡ Some a → slice_get forms j ≡ Some a → i ≡ j
 one-place forms h i j a ei ej = by (nat_lt i j) (nat_lt j i) refl refl
   where
     li : i < length forms
@@ -70,6 +71,13 @@ one-place forms h i j a ei ej = by (nat_lt i j) (nat_lt j i) refl refl
     by true t e f = let lt : i < j = grind arith in absurd (h i j Nothing lt lj same)
     by false true e f = let lt : j < i = grind arith in absurd (h j i Nothing lt li (sym same))
     by false false e f = grind arith
+
+pub pairwise : (forms : List Path) → AreApart forms → AreDifferent forms
+pairwise [] h = tt
+pairwise (a ∷ rest) h = (first, pairwise rest (λ i j d lt long. h (suc i) (suc j) d (omega arith) (omega arith)))
+  where
+    first : AllByRecursion (λ v. a ≢ v) rest
+    first = all-from (λ v. a ≢ v) rest (λ k v e same. let lt = get-below rest k v e in h 0 (suc k) v (omega arith) (omega arith) (same ∙ sym (get_or_from_slice_get rest k v v e)))
 
 -- Rows.
 
@@ -100,28 +108,28 @@ form-at states symbols (f ∷ forms) (r ∷ rows) h (suc q) row e = form-at stat
 
 module _ (path : Path) (symbols : List Symbol) (c : Classes) (are : AreClasses path symbols c) where
   -- a form that is reached by first symbols is reached
-  reached-by : (form : Path) → IsAfter (normal_of path) c.firsts form → IsReached path symbols form
+  reached-by : (form : Path) → IsReachedFrom (normal_of path) c.firsts form → IsReached path symbols form
   reached-by form h = (h.0, over h.0 h.1, h.2)
     where
       there : (x : Symbol) → Contains c.firsts x → Contains symbols x
       there x i = let at = in-get c.firsts x (in_from c.firsts x i) in all-get (λ y. Contains symbols y) c.firsts at.0 x are.among at.1
 
-      over : (w : List Symbol) → IsOver c.firsts w → IsOver symbols w
+      over : (w : List Symbol) → IsMadeOf c.firsts w → IsMadeOf symbols w
       over [] g = tt
       over (x ∷ w) g = (there x g.0, over w g.1)
 
-  pub all-reached : (forms : List Path) → AllByRecursion (IsAfter (normal_of path) c.firsts) forms → AllByRecursion (IsReached path symbols) forms
+  pub all-reached : (forms : List Path) → AllByRecursion (IsReachedFrom (normal_of path) c.firsts) forms → AllByRecursion (IsReached path symbols) forms
   all-reached [] h = tt
   all-reached (a ∷ forms) h = (reached-by a h.0, all-reached forms h.1)
 
   -- the first symbols find what all symbols find
-  pub order-all : (forms : List Path) → AllByRecursion (IsAfter (normal_of path) c.firsts) forms → (others : List Path) → all_noted others (flat_map (followers symbols) forms) ≡ all_noted others (flat_map (followers c.firsts) forms)
+  pub order-all : (forms : List Path) → AllByRecursion (IsReachedFrom (normal_of path) c.firsts) forms → (others : List Path) → with_all_new others (flat_map (followers symbols) forms) ≡ with_all_new others (flat_map (followers c.firsts) forms)
   order-all [] h others = refl
   order-all (a ∷ forms) h others =
-      all_noted-append others (followers symbols a) (flat_map (followers symbols) forms)
-      ∙ ap (λ l. all_noted l (flat_map (followers symbols) forms)) (are.order (λ x. derivative_of a x) (λ x y e. ap (λ b. derivative_of b x) h.0.2 ∙ blind path h.0.0 x y e ∙ ap (λ b. derivative_of b y) (sym h.0.2)) others)
-      ∙ order-all forms h.1 (all_noted others (followers c.firsts a))
-      ∙ sym (all_noted-append others (followers c.firsts a) (flat_map (followers c.firsts) forms))
+      with_all_new-append others (followers symbols a) (flat_map (followers symbols) forms)
+      ∙ ap (λ l. with_all_new l (flat_map (followers symbols) forms)) (are.order (λ x. derivative_of a x) (λ x y e. ap (λ b. derivative_of b x) h.0.2 ∙ blind path h.0.0 x y e ∙ ap (λ b. derivative_of b y) (sym h.0.2)) others)
+      ∙ order-all forms h.1 (with_all_new others (followers c.firsts a))
+      ∙ sym (with_all_new-append others (followers c.firsts a) (flat_map (followers c.firsts) forms))
 
   pub too_many-states : (count : ℕ) → HasMany (normal_of path) c.firsts count → HasStates path symbols count
-  too_many-states count h = record { forms = h.forms; reached = all-reached h.forms h.reached; different = h.different; many = h.many }
+  too_many-states count h = record { forms = h.forms; reached = all-reached h.forms h.reached; different = pairwise h.forms h.different; many = h.many }

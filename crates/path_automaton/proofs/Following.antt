@@ -7,10 +7,12 @@ use Rattle.merlin_model.specs.declared.policy.Symbol.{Symbol}
 use Rattle.merlin_model.specs.declared.policy.Path.{Path, Nothing}
 use Rattle.merlin_model.proofs.Members.{In, in_to}
 use Rattle.path_regex.specs.Derivatives.{derivative_of}
-use Rattle.path_automaton.specs.States.{after, IsOver, noted, all_noted, followers, AreDifferent}
-use Rattle.path_automaton.specs.Followed.{AreFollowers, IsAfter, AreRows, AreExploring, HasMany}
+use Rattle.path_regex.specs.States.{rest_after}
+use Rattle.path_automaton.specs.declared.exploring.TheConstants.{MAX_STATES}
+use Rattle.path_automaton.specs.States.{IsMadeOf, with_new, with_all_new, followers}
+use Rattle.path_automaton.specs.Followed.{AreApart, AreFollowers, IsReachedFrom, AreRows, AreExploring, HasMany}
 use Rattle.path_automaton.proofs.Places.{is, is-itself, false-true}
-use Rattle.path_automaton.proofs.Noting.{all_noted-append, all_noted-last, noted-more, all_noted-more}
+use Rattle.path_automaton.proofs.Noting.{with_all_new-append, with_all_new-last, with_new-more, with_all_new-more}
 use Rattle.path_automaton.proofs.Classing.{get-more, map-snoc}
 
 -- One row.
@@ -30,30 +32,30 @@ follow-snoc states form (y ∷ ys) (p ∷ ps) x q h e = (h.0, follow-snoc states
 
 -- what is known of a row after some symbols
 pub record IsBegun (old : List Path) (form : Path) (symbols : List Symbol) (new : List Path) (row : List ℕ) : Type 0 where
-  pub noted : new ≡ all_noted old (followers symbols form)
-  pub few : length new ≤ 2048
+  pub with_new : new ≡ with_all_new old (followers symbols form)
+  pub few : length new ≤ MAX_STATES
   pub leads : AreFollowers new form symbols row
 
-pub begin : (old : List Path) (form : Path) → length old ≤ 2048 → IsBegun old form [] old []
-begin old form few = record { noted = refl; few = few; leads = tt }
+pub begin : (old : List Path) (form : Path) → length old ≤ MAX_STATES → IsBegun old form [] old []
+begin old form few = record { with_new = refl; few = few; leads = tt }
 
-pub followers-snoc : (old : List Path) (form : Path) (symbols : List Symbol) (x : Symbol) → all_noted old (followers (symbols ++ x ∷ []) form) ≡ noted (all_noted old (followers symbols form)) (derivative_of form x)
-followers-snoc old form symbols x = ap (all_noted old) (map-snoc (λ y. derivative_of form y) symbols x) ∙ all_noted-last old (followers symbols form) (derivative_of form x)
+pub followers-snoc : (old : List Path) (form : Path) (symbols : List Symbol) (x : Symbol) → with_all_new old (followers (symbols ++ x ∷ []) form) ≡ with_new (with_all_new old (followers symbols form)) (derivative_of form x)
+followers-snoc old form symbols x = ap (with_all_new old) (map-snoc (λ y. derivative_of form y) symbols x) ∙ with_all_new-last old (followers symbols form) (derivative_of form x)
 
 pub begun-more : (old : List Path) (form : Path) (symbols : List Symbol) (new : List Path) (row : List ℕ) (x : Symbol) (next : List Path) (q : ℕ) →
-    IsBegun old form symbols new row → next ≡ noted new (derivative_of form x) → length next ≤ 2048 → slice_get next q ≡ Some (derivative_of form x) → IsBegun old form (symbols ++ x ∷ []) next (row ++ q ∷ [])
+    IsBegun old form symbols new row → next ≡ with_new new (derivative_of form x) → length next ≤ MAX_STATES → slice_get next q ≡ Some (derivative_of form x) → IsBegun old form (symbols ++ x ∷ []) next (row ++ q ∷ [])
 begun-more old form symbols new row x next q h e few at =
-    let more = noted-more new (derivative_of form x) in
+    let more = with_new-more new (derivative_of form x) in
     record {
-      noted = e ∙ ap (λ l. noted l (derivative_of form x)) h.noted ∙ sym (followers-snoc old form symbols x);
+      with_new = e ∙ ap (λ l. with_new l (derivative_of form x)) h.with_new ∙ sym (followers-snoc old form symbols x);
       few = few;
       leads = follow-snoc next form symbols row x q (follow-more new next more.0 form symbols row (e ∙ more.1) h.leads) at;
     }
 
 -- the form of a state stays at its place
-pub stays : (old : List Path) (xs new : List Path) (q : ℕ) → new ≡ all_noted old xs → q < length old → get_or new q Nothing ≡ get_or old q Nothing
+pub stays : (old : List Path) (xs new : List Path) (q : ℕ) → new ≡ with_all_new old xs → q < length old → get_or new q Nothing ≡ get_or old q Nothing
 stays old xs new q e lt =
-    let more = all_noted-more old xs in
+    let more = with_all_new-more old xs in
     ap (λ l. get_or l q Nothing) (e ∙ more.1) ∙ front old more.0 q lt
   where
     front : (ys zs : List Path) (k : ℕ) → k < length ys → get_or (ys ++ zs) k Nothing ≡ get_or ys k Nothing
@@ -61,11 +63,11 @@ stays old xs new q e lt =
     front (y ∷ ys) zs zero h = refl
     front (y ∷ ys) zs (suc k) h = front ys zs k (omega arith)
 
-pub longer : (old xs new : List Path) → new ≡ all_noted old xs → length old ≤ length new
-longer old xs new e = let more = all_noted-more old xs in subst (λ l. length old ≤ length l) (sym (e ∙ more.1)) (let n = length-append old more.0 in omega arith)
+pub longer : (old xs new : List Path) → new ≡ with_all_new old xs → length old ≤ length new
+longer old xs new e = let more = with_all_new-more old xs in subst (λ l. length old ≤ length l) (sym (e ∙ more.1)) (let n = length-append old more.0 in omega arith)
 
-pub noted-length : (xs : List Path) (a : Path) → length (noted xs a) ≤ length xs + 1
-noted-length xs a = by (list_any (λ b. is a b) xs)
+pub with_new-length : (xs : List Path) (a : Path) → length (with_new xs a) ≤ length xs + 1
+with_new-length xs a = by (list_any (λ b. is a b) xs)
   where
     by : (t : Bool) → length (cond t xs (xs ++ a ∷ [])) ≤ length xs + 1
     by true = omega arith
@@ -74,8 +76,8 @@ noted-length xs a = by (list_any (λ b. is a b) xs)
 -- Turns.
 
 -- each path is noted where it is none of the others
-noted-different : (xs : List Path) (a : Path) → AreDifferent xs → AreDifferent (noted xs a)
-noted-different xs a h = by (list_any (λ b. is a b) xs) refl
+with_new-different : (xs : List Path) (a : Path) → AreApart xs → AreApart (with_new xs a)
+with_new-different xs a h = by (list_any (λ b. is a b) xs) refl
   where
     apart : (ys : List Path) (j : ℕ) (d : Path) → list_any (λ b. is a b) ys ≡ false → j < length ys → get_or ys j d ≢ a
     apart [] j d e lt = absurd (omega (arith, lt))
@@ -99,7 +101,7 @@ noted-different xs a h = by (list_any (λ b. is a b) xs) refl
     last [] d = refl
     last (y ∷ ys) d = last ys d
 
-    by : (t : Bool) → list_any (λ b. is a b) xs ≡ t → AreDifferent (cond t xs (xs ++ a ∷ []))
+    by : (t : Bool) → list_any (λ b. is a b) xs ≡ t → AreApart (cond t xs (xs ++ a ∷ []))
     by true e = h
     by false e = λ i j d lt long same. place i j d lt (j == length xs) refl (let n = length-append xs (a ∷ []) in omega arith) same
       where
@@ -111,12 +113,12 @@ noted-different xs a h = by (list_any (λ b. is a b) xs) refl
             let other : j ≢ length xs = grind arith in
             h i j d lt (omega arith) (sym (front xs i d (omega arith)) ∙ same ∙ front xs j d (omega arith))
 
-pub all_noted-different : (xs ys : List Path) → AreDifferent xs → AreDifferent (all_noted xs ys)
-all_noted-different xs [] h = h
-all_noted-different xs (y ∷ ys) h = all_noted-different (noted xs y) ys (noted-different xs y h)
+pub with_all_new-different : (xs ys : List Path) → AreApart xs → AreApart (with_all_new xs ys)
+with_all_new-different xs [] h = h
+with_all_new-different xs (y ∷ ys) h = with_all_new-different (with_new xs y) ys (with_new-different xs y h)
 
-noted-all : (P : Path → Type 0) (xs : List Path) (a : Path) → AllByRecursion P xs → P a → AllByRecursion P (noted xs a)
-noted-all P xs a h p = by (list_any (λ b. is a b) xs)
+with_new-all : (P : Path → Type 0) (xs : List Path) (a : Path) → AllByRecursion P xs → P a → AllByRecursion P (with_new xs a)
+with_new-all P xs a h p = by (list_any (λ b. is a b) xs)
   where
     snoc : (ys : List Path) → AllByRecursion P ys → AllByRecursion P (ys ++ a ∷ [])
     snoc [] g = (p, tt)
@@ -126,21 +128,21 @@ noted-all P xs a h p = by (list_any (λ b. is a b) xs)
     by true = h
     by false = snoc xs h
 
-pub all_noted-all : (P : Path → Type 0) (xs ys : List Path) → AllByRecursion P xs → AllByRecursion P ys → AllByRecursion P (all_noted xs ys)
-all_noted-all P xs [] h g = h
-all_noted-all P xs (y ∷ ys) h g = all_noted-all P (noted xs y) ys (noted-all P xs y h g.0) g.1
+pub with_all_new-all : (P : Path → Type 0) (xs ys : List Path) → AllByRecursion P xs → AllByRecursion P ys → AllByRecursion P (with_all_new xs ys)
+with_all_new-all P xs [] h g = h
+with_all_new-all P xs (y ∷ ys) h g = with_all_new-all P (with_new xs y) ys (with_new-all P xs y h g.0) g.1
 
 -- what follows a form that is reached is reached
 
-after-snoc : (a : Path) (w : List Symbol) (x : Symbol) → after a (w ++ x ∷ []) ≡ derivative_of (after a w) x
+after-snoc : (a : Path) (w : List Symbol) (x : Symbol) → rest_after a (w ++ x ∷ []) ≡ derivative_of (rest_after a w) x
 after-snoc a [] x = refl
 after-snoc a (y ∷ w) x = after-snoc (derivative_of a y) w x
 
-over-snoc : (symbols w : List Symbol) (x : Symbol) → IsOver symbols w → Contains symbols x → IsOver symbols (w ++ x ∷ [])
+over-snoc : (symbols w : List Symbol) (x : Symbol) → IsMadeOf symbols w → Contains symbols x → IsMadeOf symbols (w ++ x ∷ [])
 over-snoc symbols [] x h i = (i, tt)
 over-snoc symbols (y ∷ w) x h i = (h.0, over-snoc symbols w x h.1 i)
 
-followers-after : (first : Path) (symbols some : List Symbol) (form : Path) → IsAfter first symbols form → AllByRecursion (λ x. Contains symbols x) some → AllByRecursion (IsAfter first symbols) (followers some form)
+followers-after : (first : Path) (symbols some : List Symbol) (form : Path) → IsReachedFrom first symbols form → AllByRecursion (λ x. Contains symbols x) some → AllByRecursion (IsReachedFrom first symbols) (followers some form)
 followers-after first symbols [] form h g = tt
 followers-after first symbols (x ∷ some) form h g =
     ((h.0 ++ x ∷ [], over-snoc symbols h.0 x h.1 g.0, ap (λ a. derivative_of a x) h.2 ∙ sym (after-snoc first h.0 x)), followers-after first symbols some form h g.1)
@@ -186,19 +188,19 @@ module _ (first : Path) (symbols : List Symbol) (states : List Path) (rows : Lis
   abbrev form : Path
   form = get_or states (length rows) Nothing
 
-  form-after : IsAfter first symbols form
-  form-after = all-at (IsAfter first symbols) states (length rows) lt h.reached
+  form-after : IsReachedFrom first symbols form
+  form-after = all-at (IsReachedFrom first symbols) states (length rows) lt h.reached
 
-  all-after : (n : ℕ) → new ≡ all_noted states (followers (take n symbols) form) → AllByRecursion (IsAfter first symbols) new
-  all-after n e = subst (AllByRecursion (IsAfter first symbols)) (sym e)
-      (all_noted-all (IsAfter first symbols) states (followers (take n symbols) form) h.reached (followers-after first symbols (take n symbols) form form-after (take-all (λ x. Contains symbols x) n symbols (each-there symbols))))
+  all-after : (n : ℕ) → new ≡ with_all_new states (followers (take n symbols) form) → AllByRecursion (IsReachedFrom first symbols) new
+  all-after n e = subst (AllByRecursion (IsReachedFrom first symbols)) (sym e)
+      (with_all_new-all (IsReachedFrom first symbols) states (followers (take n symbols) form) h.reached (followers-after first symbols (take n symbols) form form-after (take-all (λ x. Contains symbols x) n symbols (each-there symbols))))
 
-  all-different : (xs : List Path) → new ≡ all_noted states xs → AreDifferent new
-  all-different xs e = subst AreDifferent (sym e) (all_noted-different states xs h.different)
+  all-different : (xs : List Path) → new ≡ with_all_new states xs → AreApart new
+  all-different xs e = subst AreApart (sym e) (with_all_new-different states xs h.different)
 
-  pub turn : (row : List ℕ) → new ≡ all_noted states (followers symbols form) → length new ≤ 2048 → AreFollowers new form symbols row → AreExploring first symbols new (rows ++ row ∷ [])
+  pub turn : (row : List ℕ) → new ≡ with_all_new states (followers symbols form) → length new ≤ MAX_STATES → AreFollowers new form symbols row → AreExploring first symbols new (rows ++ row ∷ [])
   turn row e few leads =
-      let more = all_noted-more states (followers symbols form) in
+      let more = with_all_new-more states (followers symbols form) in
       let shape : new ≡ states ++ more.0 = e ∙ more.1 in
       let long : length states ≤ length new = longer states (followers symbols form) new e in
       let same : get_or new (length rows) Nothing ≡ form = stays states (followers symbols form) new (length rows) e lt in
@@ -209,15 +211,15 @@ module _ (first : Path) (symbols : List Symbol) (states : List Path) (rows : Lis
       record {
         few = few;
         followed = omega arith;
-        in_order = e ∙ ap (λ l. all_noted l (followers symbols form)) h.in_order
-            ∙ sym (ap (λ l. all_noted (first ∷ []) (flat_map (followers symbols) l)) front ∙ ap (all_noted (first ∷ [])) (flat_map-snoc (followers symbols) (take (length rows) states) form)
-            ∙ all_noted-append (first ∷ []) (flat_map (followers symbols) (take (length rows) states)) (followers symbols form));
+        in_order = e ∙ ap (λ l. with_all_new l (followers symbols form)) h.in_order
+            ∙ sym (ap (λ l. with_all_new (first ∷ []) (flat_map (followers symbols) l)) front ∙ ap (with_all_new (first ∷ [])) (flat_map-snoc (followers symbols) (take (length rows) states) form)
+            ∙ with_all_new-append (first ∷ []) (flat_map (followers symbols) (take (length rows) states)) (followers symbols form));
         leads = rows-snoc new symbols new rows row (omega arith)
             (subst (λ l. AreRows new symbols l rows) (sym shape) (rows-more states new more.0 symbols states more.0 rows shape h.leads))
             (subst (λ a. AreFollowers new a symbols row) (sym same) leads);
-        reached = subst (AllByRecursion (IsAfter first symbols)) (sym e) (all_noted-all (IsAfter first symbols) states (followers symbols form) h.reached (followers-after first symbols symbols form form-after (each-there symbols)));
+        reached = subst (AllByRecursion (IsReachedFrom first symbols)) (sym e) (with_all_new-all (IsReachedFrom first symbols) states (followers symbols form) h.reached (followers-after first symbols symbols form form-after (each-there symbols)));
         different = all-different (followers symbols form) e;
       }
 
-  pub too_many : (count n : ℕ) → count ≡ 2049 → length new ≡ 2049 → new ≡ all_noted states (followers (take n symbols) form) → HasMany first symbols count
+  pub too_many : (count n : ℕ) → count ≡ MAX_STATES + 1 → length new ≡ MAX_STATES + 1 → new ≡ with_all_new states (followers (take n symbols) form) → HasMany first symbols count
   too_many count n c l e = record { forms = new; reached = all-after n e; different = all-different (followers (take n symbols) form) e; many = c ∙ sym l }

@@ -3,16 +3,16 @@ use Rattle.std.proofs.Common.{◌≡◌, ◌<◌, ◌||◌, ℕ, suc, zero, nat_
 use Rattle.std.specs.List.{list_any}
 use Rattle.std.proofs.lemmas.Bool.{eqb-true}
 use Rattle.merlin_model.specs.declared.policy.Path.{Path, Nothing}
-use Rattle.path_automaton.specs.States.{noted}
-use Rattle.path_automaton.specs.Shared.{form_at, AreDistinct, AreFound, Grows}
+use Rattle.path_automaton.specs.States.{with_new}
+use Rattle.path_automaton.specs.Shared.{form_at, AreDistinct, AreFound, AddsForms}
 use Rattle.path_automaton.proofs.Places.{is, is-same, is-itself, false-true}
 use Rattle.path_automaton.proofs.Sharing.{kept, within}
 
-pub found-kept : {old new : List Path} → Grows old new → (ks : List ℕ) → AreFound old ks → AreFound new ks
+pub found-kept : {old new : List Path} → AddsForms old new → (ks : List ℕ) → AreFound old ks → AreFound new ks
 found-kept g [] h = tt
 found-kept g (k ∷ ks) h = (within g k h.0, found-kept g ks h.1)
 
-pub forms-kept : {old new : List Path} → Grows old new → (ks : List ℕ) → AreFound old ks → map (form_at new) ks ≡ map (form_at old) ks
+pub forms-kept : {old new : List Path} → AddsForms old new → (ks : List ℕ) → AreFound old ks → map (form_at new) ks ≡ map (form_at old) ks
 forms-kept g [] h = refl
 forms-kept g (k ∷ ks) h = ap₂ (λ x l. x ∷ l) (kept g k h.0) (forms-kept g ks h.1)
 
@@ -48,8 +48,8 @@ module _ (forms : List Path) (d : AreDistinct forms) (next : ℕ) (lt : next < l
   snoc-map [] = refl
   snoc-map (k ∷ ks) = ap (λ l. form_at forms k ∷ l) (snoc-map ks)
 
-  pub noted-found : (ks : List ℕ) → AreFound forms ks → map (form_at forms) (cond (list_any (nat_eq next) ks) ks (ks ++ next ∷ [])) ≡ noted (map (form_at forms) ks) (form_at forms next)
-  noted-found ks h =
+  pub with_new-found : (ks : List ℕ) → AreFound forms ks → map (form_at forms) (cond (list_any (nat_eq next) ks) ks (ks ++ next ∷ [])) ≡ with_new (map (form_at forms) ks) (form_at forms next)
+  with_new-found ks h =
       by (list_any (nat_eq next) ks)
       ∙ ap (λ t. cond t (map (form_at forms) ks) (map (form_at forms) ks ++ form_at forms next ∷ [])) (tests ks h)
     where

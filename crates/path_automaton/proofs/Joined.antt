@@ -9,9 +9,9 @@ use Rattle.path_regex.specs.Derivatives.{takes_empty}
 use Rattle.path_regex.specs.Order.{order, rank}
 use Rattle.path_regex.specs.Normal.{members, added, added_all, one_of, normal_of}
 use Rattle.path_regex.proofs.Shapes.{takes_empty-Alt, members-Alt, added_all-append, flat_map-last}
-use Rattle.path_automaton.specs.declared.forms.Node.{Node}
-use Rattle.path_automaton.specs.declared.forms.Node.TheVariants.{Nothing as NodeNothing, Empty as NodeEmpty, Dot as NodeDot, Loc as NodeLoc, Fun as NodeFun, Cat as NodeCat, Alt as NodeAlt, Star as NodeStar, Not as NodeNot}
-use Rattle.path_automaton.specs.Shared.{form_at, alt_by, IsChain, meaning, IsNode, Grows, Names, node_rank}
+use Rattle.path_automaton.specs.declared.forms.FormNode.{FormNode}
+use Rattle.path_automaton.specs.declared.forms.FormNode.TheVariants.{Nothing as NodeNothing, Empty as NodeEmpty, Dot as NodeDot, Loc as NodeLoc, Fun as NodeFun, Cat as NodeCat, Alt as NodeAlt, Star as NodeStar, Not as NodeNot}
+use Rattle.path_automaton.specs.Shared.{form_at, alt_by, IsChain, meaning, IsNode, AddsForms, IsFormAt, node_rank}
 use Rattle.path_automaton.proofs.Sharing.{rank-meaning, kept, within, grows-twice}
 
 pub members-by : (paths : List Path) → members (alt_by paths) ≡ paths
@@ -26,7 +26,7 @@ named-members forms k paths e = ap members e ∙ members-by paths
 
 -- What a node says of its form.
 
-module _ (forms : List Path) (k : ℕ) (n : Node) (h : IsNode forms k n) where
+module _ (forms : List Path) (k : ℕ) (n : FormNode) (h : IsNode forms k n) where
   pub is-Cat : (a b : ℕ) → n ≡ NodeCat a b → form_at forms k ≡ Cat (form_at forms a) (form_at forms b)
   is-Cat a b e = h.1 ∙ ap (meaning forms) e
 
@@ -69,7 +69,7 @@ module _ (forms : List Path) (k : ℕ) (n : Node) (h : IsNode forms k n) where
   pub parts-Cat : (a b : ℕ) → n ≡ NodeCat a b → (a < k) × (b < k)
   parts-Cat a b e = (subst (λ m. IsNode forms k m) e h).0
 
-  rank-one : (m : Node) → node_rank m ≡ 1 → m ≡ NodeNothing
+  rank-one : (m : FormNode) → node_rank m ≡ 1 → m ≡ NodeNothing
   rank-one NodeNothing e = refl
   rank-one NodeEmpty e = absurd (omega (arith, e))
   rank-one NodeDot e = absurd (omega (arith, e))
@@ -107,7 +107,7 @@ one-chain a r chain some = by (members r) refl
 
 -- What is known while forms are joined.
 pub record IsJoining (old now : List Path) (all left : List ℕ) (joined : ℕ) : Type 0 where
-  pub grows : Grows old now
+  pub grows : AddsForms old now
   pub below : AllByRecursion (λ form. form < length old) left
   pub within : joined < length now
   pub chain : IsChain (form_at now joined)
@@ -121,7 +121,7 @@ pub all-front : (P : ℕ → Type 0) (xs : List ℕ) (x : ℕ) → AllByRecursio
 all-front P [] x h = (tt, h.0)
 all-front P (y ∷ xs) x h = let rest = all-front P xs x h.1 in ((h.0, rest.0), rest.1)
 
-pub begin-joining : (old now : List Path) (all : List ℕ) (joined : ℕ) → Grows old now → AllByRecursion (λ form. form < length old) all → Names now joined Nothing → IsJoining old now all all joined
+pub begin-joining : (old now : List Path) (all : List ℕ) (joined : ℕ) → AddsForms old now → AllByRecursion (λ form. form < length old) all → IsFormAt now joined Nothing → IsJoining old now all all joined
 begin-joining old now all joined g below h = record {
   grows = g;
   below = below;
@@ -130,8 +130,8 @@ begin-joining old now all joined g below h = record {
   same = ap (added_all (flat_map members (map (form_at old) all))) (named-members now joined [] h.1);
 }
 
-pub joining-more : (old mid new : List Path) (all left rest : List ℕ) (form joined next : ℕ) → IsJoining old mid all left joined → left ≡ rest ++ form ∷ [] → Grows mid new →
-    Names new next (alt_by (added_all (members (form_at mid form)) (members (form_at mid joined)))) → IsJoining old new all rest next
+pub joining-more : (old mid new : List Path) (all left rest : List ℕ) (form joined next : ℕ) → IsJoining old mid all left joined → left ≡ rest ++ form ∷ [] → AddsForms mid new →
+    IsFormAt new next (alt_by (added_all (members (form_at mid form)) (members (form_at mid joined)))) → IsJoining old new all rest next
 joining-more old mid new all left rest form joined next h e g named =
     let below = all-front (λ k. k < length old) rest form (subst (AllByRecursion (λ k. k < length old)) e h.below) in
     record {
@@ -149,11 +149,11 @@ joining-more old mid new all left rest form joined next h e g named =
 
 -- What is known while normal forms are collected.
 pub record AreNormal (old now : List Path) (paths : List Path) (forms : List ℕ) : Type 0 where
-  pub grows : Grows old now
+  pub grows : AddsForms old now
   pub below : AllByRecursion (λ form. form < length now) forms
   pub same : map (form_at now) forms ≡ map normal_of paths
 
-pub more-normal : (old mid new : List Path) (paths : List Path) (forms : List ℕ) (a : Path) (form : ℕ) → AreNormal old mid paths forms → Grows mid new → Names new form (normal_of a) → AreNormal old new (paths ++ a ∷ []) (forms ++ form ∷ [])
+pub more-normal : (old mid new : List Path) (paths : List Path) (forms : List ℕ) (a : Path) (form : ℕ) → AreNormal old mid paths forms → AddsForms mid new → IsFormAt new form (normal_of a) → AreNormal old new (paths ++ a ∷ []) (forms ++ form ∷ [])
 more-normal old mid new paths forms a form h g named = record {
   grows = grows-twice h.grows g;
   below = all-snoc forms (all-kept forms h.below);

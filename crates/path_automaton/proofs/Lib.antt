@@ -7,6 +7,8 @@ pub mod Following
 pub mod LivingLaws
 pub mod Building
 pub mod Tables
+pub mod Numbering
+pub mod Listed
 mod Sharing
 mod Ranked
 mod Joined

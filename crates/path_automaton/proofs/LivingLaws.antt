@@ -3,7 +3,7 @@ use Rattle.std.proofs.Common.{◌≡◌, ◌≢◌, ◌||◌, ◌==◌, ◌<◌,
 use Rattle.std.specs.List.{AllByRecursion, list_any}
 use Rattle.std.proofs.lemmas.Bool.{eqb-true}
 use Rattle.merlin_model.proofs.Members.{In, in_to, in_from}
-use Rattle.path_automaton.specs.Living.{row_of, is_set, IsWay, IsLive, AreInside, AreSound, dead, AreClosed, IsSpread, AreLiving}
+use Rattle.path_automaton.specs.Living.{states_after, is_set, IsWay, IsLive, AreInside, AreSound, dead, AreClosed, IsSpread, AreLiving}
 
 pub false-true : false ≡ true → ⊥
 false-true e = cc
@@ -85,7 +85,7 @@ start rows flags = record {
 }
 
 -- a state that stays as it is
-pub stay : (rows : List (List ℕ)) (q : ℕ) (old new : List Bool) (changed : Bool) → IsSpread rows (suc q) old new changed → (list_any (is_set new) (row_of rows q) ≡ true → is_set new q ≡ true) → IsSpread rows q old new changed
+pub stay : (rows : List (List ℕ)) (q : ℕ) (old new : List Bool) (changed : Bool) → IsSpread rows (suc q) old new changed → (list_any (is_set new) (states_after rows q) ≡ true → is_set new q ≡ true) → IsSpread rows q old new changed
 stay rows q old new changed h here = record {
   size = h.size;
   kept = h.kept;
@@ -95,12 +95,12 @@ stay rows q old new changed h here = record {
   most = h.most;
 }
   where
-    by : (k : ℕ) → q ≤ k → k < length rows → (b : Bool) → (k == q) ≡ b → AreClosed rows new (suc q) → list_any (is_set new) (row_of rows k) ≡ true → is_set new k ≡ true
-    by k from lt true e closed any = let same : k ≡ q = eqb-true k q e in subst (λ j. is_set new j ≡ true) (sym same) (here (subst (λ j. list_any (is_set new) (row_of rows j) ≡ true) same any))
+    by : (k : ℕ) → q ≤ k → k < length rows → (b : Bool) → (k == q) ≡ b → AreClosed rows new (suc q) → list_any (is_set new) (states_after rows k) ≡ true → is_set new k ≡ true
+    by k from lt true e closed any = let same : k ≡ q = eqb-true k q e in subst (λ j. is_set new j ≡ true) (sym same) (here (subst (λ j. list_any (is_set new) (states_after rows j) ≡ true) same any))
     by k from lt false e closed any = let other : k ≢ q = grind arith in closed k (omega arith) lt any
 
 -- a state that is found to live
-pub found : (rows : List (List ℕ)) (q : ℕ) (old new : List Bool) (changed : Bool) → IsSpread rows (suc q) old new changed → q < length new → is_set new q ≡ false → list_any (is_set new) (row_of rows q) ≡ true → IsSpread rows q old (slice_set new q true) true
+pub found : (rows : List (List ℕ)) (q : ℕ) (old new : List Bool) (changed : Bool) → IsSpread rows (suc q) old new changed → q < length new → is_set new q ≡ false → list_any (is_set new) (states_after rows q) ≡ true → IsSpread rows q old (slice_set new q true) true
 found rows q old new changed h lt none any = record {
   size = set-length new q ∙ h.size;
   kept = λ k e. set-kept new q k (h.kept k e);
@@ -112,9 +112,9 @@ found rows q old new changed h lt none any = record {
   where
     lives : (accepting : List Bool) → AreSound rows accepting new → (k : ℕ) → (k ≡ q) ⊎ (is_set new k ≡ true) → IsLive rows accepting k
     lives accepting s k (inl same) =
-        let p = any-in (is_set new) (row_of rows q) any in
+        let p = any-in (is_set new) (states_after rows q) any in
         let way = s p.0 p.2 in
-        subst (IsLive rows accepting) (sym same) (p.0 ∷ way.0, (in_to (row_of rows q) p.0 p.1, way.1))
+        subst (IsLive rows accepting) (sym same) (p.0 ∷ way.0, (in_to (states_after rows q) p.0 p.1, way.1))
     lives accepting s k (inr e) = s k e
 
 -- Rounds.
@@ -133,8 +133,8 @@ between-next rows accepting old new changed h s = record { size = s.size ∙ h.s
 pub between-end : (rows : List (List ℕ)) (accepting old new : List Bool) → AreInside rows (length accepting) → IsBetween rows accepting old → IsSpread rows 0 old new false → AreLiving rows accepting new
 between-end rows accepting old new inside h s = record { size = s.size ∙ h.size; exact = λ q lt. (s.sound accepting h.sound q, λ l. live q lt l.0 l.1) }
   where
-    next-in : (q : ℕ) → q < length rows → (p : ℕ) → In p (row_of rows q) → p < length rows
-    next-in q lt p i = subst (λ n. p < n) (sym inside.0) (all-in (row_of rows q) (all-at (λ row. AllByRecursion (λ k. k < length accepting) row) rows q [] lt inside.1) i)
+    next-in : (q : ℕ) → q < length rows → (p : ℕ) → In p (states_after rows q) → p < length rows
+    next-in q lt p i = subst (λ n. p < n) (sym inside.0) (all-in (states_after rows q) (all-at (λ row. AllByRecursion (λ k. k < length accepting) row) rows q [] lt inside.1) i)
       where
         all-in : (xs : List ℕ) → AllByRecursion (λ k. k < length accepting) xs → In p xs → p < length accepting
         all-in [] a i = absurd i
@@ -144,8 +144,8 @@ between-end rows accepting old new inside h s = record { size = s.size ∙ h.siz
     live : (q : ℕ) → q < length rows → (ps : List ℕ) → IsWay rows accepting q ps → is_set new q ≡ true
     live q lt [] w = s.kept q (h.kept q w)
     live q lt (p ∷ ps) w =
-        let i = in_from (row_of rows q) p w.0 in
-        s.closed refl q (omega arith) lt (in-any (is_set new) (row_of rows q) p i (live p (next-in q lt p i) ps w.1))
+        let i = in_from (states_after rows q) p w.0 in
+        s.closed refl q (omega arith) lt (in-any (is_set new) (states_after rows q) p i (live p (next-in q lt p i) ps w.1))
 
 -- a place in range has one element, whatever stands past the end
 pub same-row : (rows : List (List ℕ)) (q : ℕ) (d e : List ℕ) → q < length rows → get_or rows q d ≡ get_or rows q e
@@ -155,12 +155,12 @@ same-row (row ∷ rows) (suc q) d e lt = same-row rows q d e (omega arith)
 
 -- the step of a loop from the last state to the first
 pub found-at : (rows : List (List ℕ)) (state : ℕ) (old new : List Bool) (changed : Bool) → IsSpread rows state old new changed → 0 < state → state ≤ length rows → length rows ≡ length old →
-    is_set new (state - 1) ≡ false → list_any (is_set new) (row_of rows (state - 1)) ≡ true → IsSpread rows (state - 1) old (slice_set new (state - 1) true) true × (state - 1 ≤ length rows)
+    is_set new (state - 1) ≡ false → list_any (is_set new) (states_after rows (state - 1)) ≡ true → IsSpread rows (state - 1) old (slice_set new (state - 1) true) true × (state - 1 ≤ length rows)
 found-at rows zero old new changed h lt le inside none any = absurd (omega (arith, lt))
 found-at rows (suc q) old new changed h lt le inside none any =
     let e : suc q - 1 ≡ q = omega arith in
     let size = h.size in (
       subst (λ k. IsSpread rows k old (slice_set new k true) true) (sym e)
-          (found rows q old new changed h (omega arith) (subst (λ k. is_set new k ≡ false) e none) (subst (λ k. list_any (is_set new) (row_of rows k) ≡ true) e any)),
+          (found rows q old new changed h (omega arith) (subst (λ k. is_set new k ≡ false) e none) (subst (λ k. list_any (is_set new) (states_after rows k) ≡ true) e any)),
       omega arith,
     )

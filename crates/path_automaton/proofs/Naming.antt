@@ -5,24 +5,24 @@ use Rattle.merlin_model.specs.declared.policy.Symbol.{Symbol}
 use Rattle.merlin_model.specs.declared.policy.Path.{Path, Cat, Alt, Star, Not}
 use Rattle.merlin_model.specs.declared.policy.Path.TheBlock.{hidden-the_row-Path-0, hidden-the_row-Path-1}
 use denote.Hole.Carrier.{hidden}
-use Rattle.path_automaton.specs.Kinds.{names}
+use Rattle.path_automaton.specs.SeenSymbols.{mentions}
 
-pub names-Cat : (a b : Path) (x : Symbol) → names (Cat a b) x ≡ (names a x || names b x)
+pub mentions-Cat : (a b : Path) (x : Symbol) → mentions (Cat a b) x ≡ (mentions a x || mentions b x)
 unfolding hidden-the_row-Path-1 hidden
-names-Cat a b x = refl
+mentions-Cat a b x = refl
 
-pub names-Alt : (paths : List Path) (x : Symbol) → names (Alt paths) x ≡ list_any (λ a. names a x) paths
+pub mentions-Alt : (paths : List Path) (x : Symbol) → mentions (Alt paths) x ≡ list_any (λ a. mentions a x) paths
 unfolding hidden-the_row-Path-0 hidden-the_row-Path-1 hidden
-names-Alt [] x = refl
-names-Alt (a ∷ paths) x = ap (λ b. names a x || b) (names-Alt paths x)
+mentions-Alt [] x = refl
+mentions-Alt (a ∷ paths) x = ap (λ b. mentions a x || b) (mentions-Alt paths x)
 
-pub names-Star : (a : Path) (x : Symbol) → names (Star a) x ≡ names a x
+pub mentions-Star : (a : Path) (x : Symbol) → mentions (Star a) x ≡ mentions a x
 unfolding hidden-the_row-Path-1 hidden
-names-Star a x = refl
+mentions-Star a x = refl
 
-pub names-Not : (a : Path) (x : Symbol) → names (Not a) x ≡ names a x
+pub mentions-Not : (a : Path) (x : Symbol) → mentions (Not a) x ≡ mentions a x
 unfolding hidden-the_row-Path-1 hidden
-names-Not a x = refl
+mentions-Not a x = refl
 
 pub any-from : (test : Path → Bool) (xs : List Path) (i : ℕ) (a : Path) → i < length xs → a ≡ get_or xs i a → test a ≡ true → list_any test (drop i xs) ≡ true
 any-from test xs i a lt e t =

@@ -10,34 +10,34 @@ use denote.Hole.Carrier.{hidden}
 use Rattle.path_regex.specs.Order.{order, spelled, rank}
 use Rattle.path_regex.specs.Normal.{members}
 use Rattle.path_regex.proofs.Ordered.{ranked, ranked-plain, order-apart, order-Cat, order-Alt, order-Star, order-Not}
-use Rattle.path_automaton.specs.declared.forms.Node.{Node}
-use Rattle.path_automaton.specs.declared.forms.Node.TheVariants.{Loc as NodeLoc, Fun as NodeFun, Cat as NodeCat, Alt as NodeAlt, Star as NodeStar, Not as NodeNot}
-use Rattle.path_automaton.specs.Shared.{form_at, alt_by, IsChain, meaning, IsGrounded, IsNode, node_rank}
+use Rattle.path_automaton.specs.declared.forms.FormNode.{FormNode}
+use Rattle.path_automaton.specs.declared.forms.FormNode.TheVariants.{Loc as NodeLoc, Fun as NodeFun, Cat as NodeCat, Alt as NodeAlt, Star as NodeStar, Not as NodeNot}
+use Rattle.path_automaton.specs.Shared.{form_at, alt_by, IsChain, meaning, PartsStandBefore, IsNode, node_rank}
 use Rattle.path_automaton.proofs.Sharing.{rank-meaning}
 
 -- A variant against the others.
 
-pub other-Loc : (m : Node) → ((l : ℕ) → m ≡ NodeLoc l → ⊥) → is_eq (nat_cmp 4 (node_rank m)) ≡ false
+pub other-Loc : (m : FormNode) → ((l : ℕ) → m ≡ NodeLoc l → ⊥) → is_eq (nat_cmp 4 (node_rank m)) ≡ false
 other-Loc (NodeLoc l) h = absurd (h l refl)
 other-Loc m h = refl
 
-pub other-Fun : (m : Node) → ((l : ℕ) → m ≡ NodeFun l → ⊥) → is_eq (nat_cmp 5 (node_rank m)) ≡ false
+pub other-Fun : (m : FormNode) → ((l : ℕ) → m ≡ NodeFun l → ⊥) → is_eq (nat_cmp 5 (node_rank m)) ≡ false
 other-Fun (NodeFun l) h = absurd (h l refl)
 other-Fun m h = refl
 
-pub other-Cat : (m : Node) → ((a b : ℕ) → m ≡ NodeCat a b → ⊥) → is_eq (nat_cmp 6 (node_rank m)) ≡ false
+pub other-Cat : (m : FormNode) → ((a b : ℕ) → m ≡ NodeCat a b → ⊥) → is_eq (nat_cmp 6 (node_rank m)) ≡ false
 other-Cat (NodeCat a b) h = absurd (h a b refl)
 other-Cat m h = refl
 
-pub other-Alt : (m : Node) → ((a b : ℕ) → m ≡ NodeAlt a b → ⊥) → is_eq (nat_cmp 7 (node_rank m)) ≡ false
+pub other-Alt : (m : FormNode) → ((a b : ℕ) → m ≡ NodeAlt a b → ⊥) → is_eq (nat_cmp 7 (node_rank m)) ≡ false
 other-Alt (NodeAlt a b) h = absurd (h a b refl)
 other-Alt m h = refl
 
-pub other-Star : (m : Node) → ((a : ℕ) → m ≡ NodeStar a → ⊥) → is_eq (nat_cmp 8 (node_rank m)) ≡ false
+pub other-Star : (m : FormNode) → ((a : ℕ) → m ≡ NodeStar a → ⊥) → is_eq (nat_cmp 8 (node_rank m)) ≡ false
 other-Star (NodeStar a) h = absurd (h a refl)
 other-Star m h = refl
 
-pub other-Not : (m : Node) → ((a : ℕ) → m ≡ NodeNot a → ⊥) → is_eq (nat_cmp 9 (node_rank m)) ≡ false
+pub other-Not : (m : FormNode) → ((a : ℕ) → m ≡ NodeNot a → ⊥) → is_eq (nat_cmp 9 (node_rank m)) ≡ false
 other-Not (NodeNot a) h = absurd (h a refl)
 other-Not m h = refl
 
@@ -66,7 +66,7 @@ order-chain a b t u ct cu =
     ap (λ o. ordering_then (order a b) o) (ap₂ order ct cu ∙ sym (by-members (members t) (members u)))
     ∙ sym (order-Alt (a ∷ members t) (b ∷ members u))
 
-module _ (forms : List Path) (i j : ℕ) (n m : Node) (hn : IsNode forms i n) (hm : IsNode forms j m) where
+module _ (forms : List Path) (i j : ℕ) (n m : FormNode) (hn : IsNode forms i n) (hm : IsNode forms j m) where
   of-nodes : (o : Ordering) → o ≡ order (meaning forms n) (meaning forms m) → o ≡ order (form_at forms i) (form_at forms j)
   of-nodes o e = e ∙ sym (ap₂ order hn.1 hm.1)
 
@@ -88,8 +88,8 @@ module _ (forms : List Path) (i j : ℕ) (n m : Node) (hn : IsNode forms i n) (h
   pub both-Alt : (a b x y : ℕ) → n ≡ NodeAlt a b → m ≡ NodeAlt x y →
       ordering_then (order (form_at forms a) (form_at forms x)) (order (form_at forms b) (form_at forms y)) ≡ order (form_at forms i) (form_at forms j)
   both-Alt a b x y en em =
-      let g : IsGrounded i forms (NodeAlt a b) = subst (IsGrounded i forms) en hn.0 in
-      let h : IsGrounded j forms (NodeAlt x y) = subst (IsGrounded j forms) em hm.0 in
+      let g : PartsStandBefore i forms (NodeAlt a b) = subst (PartsStandBefore i forms) en hn.0 in
+      let h : PartsStandBefore j forms (NodeAlt x y) = subst (PartsStandBefore j forms) em hm.0 in
       order-chain (form_at forms a) (form_at forms x) (form_at forms b) (form_at forms y) g.2 h.2
       ∙ sym (ap₂ order (hn.1 ∙ ap (meaning forms) en) (hm.1 ∙ ap (meaning forms) em))
 

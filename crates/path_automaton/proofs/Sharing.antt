@@ -8,16 +8,16 @@ use denote.Hole.Carrier.{hidden}
 use Rattle.path_regex.specs.Order.{rank}
 use Rattle.path_regex.specs.Normal.{members}
 use Rattle.path_regex.proofs.Shapes.{members-Alt}
-use Rattle.path_automaton.specs.declared.forms.Node.{Node}
-use Rattle.path_automaton.specs.declared.forms.Node.TheVariants.{Nothing as NodeNothing, Empty as NodeEmpty, Dot as NodeDot, Loc as NodeLoc, Fun as NodeFun, Cat as NodeCat, Alt as NodeAlt, Star as NodeStar, Not as NodeNot}
-use Rattle.path_automaton.specs.Shared.{form_at, alt_by, IsChain, meaning, meanings, IsGrounded, IsNode, AreDistinct, AreNodes, Grows, Names, node_rank}
+use Rattle.path_automaton.specs.declared.forms.FormNode.{FormNode}
+use Rattle.path_automaton.specs.declared.forms.FormNode.TheVariants.{Nothing as NodeNothing, Empty as NodeEmpty, Dot as NodeDot, Loc as NodeLoc, Fun as NodeFun, Cat as NodeCat, Alt as NodeAlt, Star as NodeStar, Not as NodeNot}
+use Rattle.path_automaton.specs.Shared.{form_at, alt_by, IsChain, meaning, meanings, PartsStandBefore, IsNode, AreDistinct, AreNodes, AddsForms, IsFormAt, node_rank}
 
 -- Growing.
 
-pub grows-not : (forms : List Path) → Grows forms forms
+pub grows-not : (forms : List Path) → AddsForms forms forms
 grows-not forms = record { more = []; is = sym (append-nil forms) }
 
-pub grows-twice : {old mid new : List Path} → Grows old mid → Grows mid new → Grows old new
+pub grows-twice : {old mid new : List Path} → AddsForms old mid → AddsForms mid new → AddsForms old new
 grows-twice {old} g h = record { more = g.more ++ h.more; is = h.is ∙ ap (λ l. l ++ h.more) g.is ∙ append_assoc old g.more h.more }
 
 front : (xs ys : List Path) (k : ℕ) → k < length xs → form_at (xs ++ ys) k ≡ form_at xs k
@@ -25,16 +25,16 @@ front [] ys k h = absurd (omega (arith, h))
 front (x ∷ xs) ys zero h = refl
 front (x ∷ xs) ys (suc k) h = front xs ys k (omega arith)
 
-pub kept : {old new : List Path} → Grows old new → (k : ℕ) → k < length old → form_at new k ≡ form_at old k
+pub kept : {old new : List Path} → AddsForms old new → (k : ℕ) → k < length old → form_at new k ≡ form_at old k
 kept {old} g k lt = ap (λ l. form_at l k) g.is ∙ front old g.more k lt
 
-pub longer : {old new : List Path} → Grows old new → length old ≤ length new
+pub longer : {old new : List Path} → AddsForms old new → length old ≤ length new
 longer {old} g = let n = length-append old g.more in let e = ap length g.is in omega arith
 
-pub within : {old new : List Path} → Grows old new → (k : ℕ) → k < length old → k < length new
+pub within : {old new : List Path} → AddsForms old new → (k : ℕ) → k < length old → k < length new
 within {old} {new} g k lt = let l = longer g in omega arith
 
-pub named : {old new : List Path} → Grows old new → (k : ℕ) (a : Path) → Names old k a → Names new k a
+pub named : {old new : List Path} → AddsForms old new → (k : ℕ) (a : Path) → IsFormAt old k a → IsFormAt new k a
 named g k a h = (within g k h.0, kept g k h.0 ∙ h.1)
 
 -- Nodes.
@@ -43,38 +43,38 @@ last : (xs : List Path) (a : Path) → form_at (xs ++ a ∷ []) (length xs) ≡ 
 last [] a = refl
 last (x ∷ xs) a = last xs a
 
-meanings-snoc : (forms : List Path) (nodes : List Node) (n : Node) → meanings forms (nodes ++ n ∷ []) ≡ meanings forms nodes ++ meaning (meanings forms nodes) n ∷ []
+meanings-snoc : (forms : List Path) (nodes : List FormNode) (n : FormNode) → meanings forms (nodes ++ n ∷ []) ≡ meanings forms nodes ++ meaning (meanings forms nodes) n ∷ []
 meanings-snoc forms [] n = refl
 meanings-snoc forms (m ∷ nodes) n = meanings-snoc (forms ++ meaning forms m ∷ []) nodes n
 
-weaker : (k bound : ℕ) (forms : List Path) (n : Node) → k ≤ bound → IsGrounded k forms n → IsGrounded bound forms n
+weaker : (k bound : ℕ) (forms : List Path) (n : FormNode) → k ≤ bound → PartsStandBefore k forms n → PartsStandBefore bound forms n
 weaker k bound forms (NodeCat a b) le h = let x = h.0 in let y = h.1 in (omega arith, omega arith)
 weaker k bound forms (NodeAlt a t) le h = let x = h.0 in let y = h.1 in (omega arith, omega arith, h.2)
 weaker k bound forms (NodeStar a) le h = omega (arith, le, h)
 weaker k bound forms (NodeNot a) le h = omega (arith, le, h)
 weaker k bound forms n le h = tt
 
-meaning-more : {old new : List Path} → Grows old new → (n : Node) → IsGrounded (length old) old n → meaning new n ≡ meaning old n
+meaning-more : {old new : List Path} → AddsForms old new → (n : FormNode) → PartsStandBefore (length old) old n → meaning new n ≡ meaning old n
 meaning-more g (NodeCat a b) h = ap₂ Cat (kept g a h.0) (kept g b h.1)
 meaning-more g (NodeAlt a t) h = ap₂ (λ x y. Alt (x ∷ members y)) (kept g a h.0) (kept g t h.1)
 meaning-more g (NodeStar a) h = ap Star (kept g a h)
 meaning-more g (NodeNot a) h = ap Not (kept g a h)
 meaning-more g n h = refl
 
-grounded-more : {old new : List Path} → Grows old new → (k : ℕ) → k ≤ length old → (n : Node) → IsGrounded k old n → IsGrounded k new n
+grounded-more : {old new : List Path} → AddsForms old new → (k : ℕ) → k ≤ length old → (n : FormNode) → PartsStandBefore k old n → PartsStandBefore k new n
 grounded-more g k le (NodeCat a b) h = h
 grounded-more g k le (NodeAlt a t) h = let x = h.1 in (h.0, h.1, subst IsChain (sym (kept g t (omega arith))) h.2)
 grounded-more g k le (NodeStar a) h = h
 grounded-more g k le (NodeNot a) h = h
 grounded-more g k le n h = tt
 
-node-more : {old new : List Path} → Grows old new → (k : ℕ) → k < length old → (n : Node) → IsNode old k n → IsNode new k n
+node-more : {old new : List Path} → AddsForms old new → (k : ℕ) → k < length old → (n : FormNode) → IsNode old k n → IsNode new k n
 node-more {old} g k lt n h =
     (grounded-more g k (omega arith) n h.0, kept g k lt ∙ h.1 ∙ sym (meaning-more g n (weaker k (length old) old n (omega arith) h.0)))
 
 -- Nodes with one meaning are the same.
 
-pub rank-meaning : (forms : List Path) (n : Node) → rank (meaning forms n) ≡ node_rank n
+pub rank-meaning : (forms : List Path) (n : FormNode) → rank (meaning forms n) ≡ node_rank n
 unfolding hidden-the_row-Path-0 hidden-the_row-Path-1 hidden
 rank-meaning forms NodeNothing = refl
 rank-meaning forms NodeEmpty = refl
@@ -89,7 +89,7 @@ rank-meaning forms (NodeNot a) = refl
 false-true : false ≡ true → ⊥
 false-true e = cc
 
-apart : (forms : List Path) (n m : Node) → (node_rank n == node_rank m) ≡ false → meaning forms n ≡ meaning forms m → ⊥
+apart : (forms : List Path) (n m : FormNode) → (node_rank n == node_rank m) ≡ false → meaning forms n ≡ meaning forms m → ⊥
 apart forms n m f e = false-true (sym f ∙ eqb-is (node_rank n) (node_rank m) (sym (rank-meaning forms n) ∙ ap rank e ∙ rank-meaning forms m))
   where
     eqb-is : (a b : ℕ) → a ≡ b → (a == b) ≡ true
@@ -132,7 +132,7 @@ tail [] = []
 tail (a ∷ rest) = rest
 
 module _ (forms : List Path) (d : AreDistinct forms) where
-  pub same-node : (n m : Node) → IsGrounded (length forms) forms n → IsGrounded (length forms) forms m → meaning forms n ≡ meaning forms m → n ≡ m
+  pub same-node : (n m : FormNode) → PartsStandBefore (length forms) forms n → PartsStandBefore (length forms) forms m → meaning forms n ≡ meaning forms m → n ≡ m
   same-node NodeNothing NodeNothing g h e = refl
   same-node NodeEmpty NodeEmpty g h e = refl
   same-node NodeDot NodeDot g h e = refl
@@ -151,13 +151,13 @@ module _ (forms : List Path) (d : AreDistinct forms) where
 
 -- A node that is put.
 
-node-at : (nodes : List Node) (k : ℕ) → k < length nodes → (n : Node) × (slice_get nodes k ≡ Some n)
+node-at : (nodes : List FormNode) (k : ℕ) → k < length nodes → (n : FormNode) × (slice_get nodes k ≡ Some n)
 node-at [] k lt = absurd (omega (arith, lt))
 node-at (n ∷ nodes) zero lt = (n, refl)
 node-at (n ∷ nodes) (suc k) lt = node-at nodes k (omega arith)
 
 -- a place in a longer list is one of the list or the last
-snoc-at : (nodes : List Node) (n m : Node) (k : ℕ) → slice_get (nodes ++ n ∷ []) k ≡ Some m → ((k < length nodes) × (slice_get nodes k ≡ Some m)) ⊎ ((k ≡ length nodes) × (n ≡ m))
+snoc-at : (nodes : List FormNode) (n m : FormNode) (k : ℕ) → slice_get (nodes ++ n ∷ []) k ≡ Some m → ((k < length nodes) × (slice_get nodes k ≡ Some m)) ⊎ ((k ≡ length nodes) × (n ≡ m))
 snoc-at [] n m zero e = inr (refl, cc)
 snoc-at [] n m (suc k) e = cc
 snoc-at (x ∷ nodes) n m zero e = inl (omega arith, e)
@@ -167,17 +167,17 @@ snoc-at (x ∷ nodes) n m (suc k) e = by (snoc-at nodes n m k e)
     by (inl h) = let l = h.0 in inl (omega arith, h.1)
     by (inr h) = inr (ap suc h.0, h.1)
 
-module _ (nodes : List Node) (forms : List Path) (are : AreNodes nodes forms) (n : Node) (g : IsGrounded (length forms) forms n) where
+module _ (nodes : List FormNode) (forms : List Path) (are : AreNodes nodes forms) (n : FormNode) (g : PartsStandBefore (length forms) forms n) where
   abbrev longer-forms : List Path
   longer-forms = forms ++ meaning forms n ∷ []
 
-  grown : Grows forms longer-forms
+  grown : AddsForms forms longer-forms
   grown = record { more = meaning forms n ∷ []; is = refl }
 
   one-more : length longer-forms ≡ length forms + 1
   one-more = length-append forms (meaning forms n ∷ [])
 
-  each-more : (k : ℕ) (m : Node) → slice_get (nodes ++ n ∷ []) k ≡ Some m → IsNode longer-forms k m
+  each-more : (k : ℕ) (m : FormNode) → slice_get (nodes ++ n ∷ []) k ≡ Some m → IsNode longer-forms k m
   each-more k m e = by (snoc-at nodes n m k e)
     where
       by : ((k < length nodes) × (slice_get nodes k ≡ Some m)) ⊎ ((k ≡ length nodes) × (n ≡ m)) → IsNode longer-forms k m
@@ -217,12 +217,12 @@ module _ (nodes : List Node) (forms : List Path) (are : AreNodes nodes forms) (n
   }
 
 -- what is known after a node was put
-pub record IsPut (old new : List Node) : Type 0 where
+pub record IsPut (old new : List FormNode) : Type 0 where
   pub nodes : AreNodes new (meanings [] new)
-  pub grows : Grows (meanings [] old) (meanings [] new)
+  pub grows : AddsForms (meanings [] old) (meanings [] new)
 
-module _ (eq : Node → Node → Bool) (same : (x y : Node) → eq x y ≡ true → x ≡ y) (itself : (x : Node) → eq x x ≡ true) (old : List Node) (are : AreNodes old (meanings [] old)) (n : Node) (g : IsGrounded (length (meanings [] old)) (meanings [] old) n) where
-  none-there : (nodes : List Node) → list_any (eq n) nodes ≡ false → (k : ℕ) → slice_get nodes k ≡ Some n → ⊥
+module _ (eq : FormNode → FormNode → Bool) (same : (x y : FormNode) → eq x y ≡ true → x ≡ y) (itself : (x : FormNode) → eq x x ≡ true) (old : List FormNode) (are : AreNodes old (meanings [] old)) (n : FormNode) (g : PartsStandBefore (length (meanings [] old)) (meanings [] old) n) where
+  none-there : (nodes : List FormNode) → list_any (eq n) nodes ≡ false → (k : ℕ) → slice_get nodes k ≡ Some n → ⊥
   none-there [] f k e = cc
   none-there (m ∷ nodes) f zero e = let at : m ≡ n = cc in by (eq n m) f (subst (λ x. eq n x ≡ true) (sym at) (itself n))
     where
@@ -235,26 +235,26 @@ module _ (eq : Node → Node → Bool) (same : (x y : Node) → eq x y ≡ true 
       rest true f = cc
       rest false f = f
 
-  not-put : (new : List Node) → new ≡ old → IsPut old new
+  not-put : (new : List FormNode) → new ≡ old → IsPut old new
   not-put new e = subst (λ l. IsPut old l) (sym e) (record { nodes = are; grows = grows-not (meanings [] old) })
 
-  pub is-put : (new : List Node) (t : Bool) → list_any (eq n) old ≡ t → new ≡ cond t old (old ++ n ∷ []) → IsPut old new
+  pub is-put : (new : List FormNode) (t : Bool) → list_any (eq n) old ≡ t → new ≡ cond t old (old ++ n ∷ []) → IsPut old new
   is-put new true f e = not-put new e
   is-put new false f e = subst (λ l. IsPut old l) (sym e) (record {
     nodes = subst (AreNodes (old ++ n ∷ [])) (sym (meanings-snoc [] old n)) (put-more old (meanings [] old) are n g (none-there old f));
     grows = record { more = meaning (meanings [] old) n ∷ []; is = meanings-snoc [] old n };
   })
 
-  pub put-answer : {X E : Type 0} (new : List Node) (r : Result X E) → IfOk r (λ x. new ≡ cond (list_any (eq n) old) old (old ++ n ∷ [])) → OnErr r (new ≡ old) → IsPut old new
+  pub put-answer : {X E : Type 0} (new : List FormNode) (r : Result X E) → IfOk r (λ x. new ≡ cond (list_any (eq n) old) old (old ++ n ∷ [])) → OnErr r (new ≡ old) → IsPut old new
   put-answer new (Ok x) h e = is-put new (list_any (eq n) old) refl h
   put-answer new (Err x) h e = not-put new e
 
-  get-below : (nodes : List Node) (k : ℕ) (m : Node) → slice_get nodes k ≡ Some m → k < length nodes
+  get-below : (nodes : List FormNode) (k : ℕ) (m : FormNode) → slice_get nodes k ≡ Some m → k < length nodes
   get-below [] k m e = cc
   get-below (x ∷ nodes) zero m e = omega arith
   get-below (x ∷ nodes) (suc k) m e = let lt = get-below nodes k m e in omega arith
 
-  pub put-names : (new : List Node) → IsPut old new → (k : ℕ) (m : Node) → slice_get new k ≡ Some m → eq n m ≡ true → Names (meanings [] new) k (meaning (meanings [] old) n)
+  pub put-names : (new : List FormNode) → IsPut old new → (k : ℕ) (m : FormNode) → slice_get new k ≡ Some m → eq n m ≡ true → IsFormAt (meanings [] new) k (meaning (meanings [] old) n)
   put-names new p k m at e =
       let is = p.nodes.each k m at in
       let long = p.nodes.long in

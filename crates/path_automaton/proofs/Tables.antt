@@ -15,12 +15,12 @@ use Rattle.path_regex.proofs.Meanings.{normal-takes, derivative-quotient}
 use Rattle.path_regex.proofs.Functionless.{normal-under, derivative-under}
 use Rattle.path_automaton.specs.declared.classes.Classes.{Classes}
 use Rattle.path_automaton.specs.Classes.{AreClasses}
-use Rattle.path_automaton.specs.States.{all_noted, followers, AreStates}
-use Rattle.path_automaton.specs.Followed.{AreFollowers, IsAfter, AreExploring}
+use Rattle.path_automaton.specs.States.{with_all_new, followers, AreStates}
+use Rattle.path_automaton.specs.Followed.{AreFollowers, IsReachedFrom, AreExploring}
 use Rattle.path_automaton.specs.Living.{IsWay, IsLive, AreInside, AreLiving}
-use Rattle.path_automaton.specs.Automata.{Tables, step, accepts, lives, state_after, AreBelow, Spells, IsAutomatonOf, SomeAccepted, AreTablesOf}
+use Rattle.path_automaton.specs.Automata.{AutomatonTables, step, accepts, lives, state_after_numbers, AreBelow, Spells, AcceptsWordsOf, SomeAccepted, AreTablesOfPath}
 use Rattle.path_automaton.specs.Inside.{entry, tables_of, AreWhole}
-use Rattle.path_automaton.proofs.Noting.{all_noted-keeps}
+use Rattle.path_automaton.proofs.Noting.{with_all_new-keeps}
 use Rattle.path_automaton.proofs.Twins.{blind}
 use Rattle.path_automaton.proofs.Building.{get-below, below-get, get-map, map-length, get-in, in-get, all-get, all-from, one-place, follower, followed, row-at, form-at, all-reached, order-all}
 
@@ -32,10 +32,13 @@ module _ (path : Path) (symbols : List Symbol) (c : Classes) (are : AreClasses p
   states-are = record {
     in_order =
         ex.in_order
-        ∙ ap (λ l. all_noted (normal_of path ∷ []) (flat_map (followers c.firsts) l)) (take_all (length rows) states (omega arith))
+        ∙ ap (λ l. with_all_new (normal_of path ∷ []) (flat_map (followers c.firsts) l)) (take_all (length rows) states (omega arith))
         ∙ sym (order-all path symbols c are states ex.reached (normal_of path ∷ []));
     reached = all-reached path symbols c are states ex.reached;
   }
+
+  first-state : slice_get states 0 ≡ Some (normal_of path)
+  first-state = subst (λ l. slice_get l 0 ≡ Some (normal_of path)) (sym ex.in_order) (with_all_new-keeps (normal_of path ∷ []) (flat_map (followers c.firsts) (take (length rows) states)) 0 (normal_of path) refl)
 
   -- each state's followers are states
   entry-below : (q : ℕ) (row : List ℕ) → slice_get rows q ≡ Some row → AllByRecursion (λ p. p < length states) row
@@ -47,7 +50,7 @@ module _ (path : Path) (symbols : List Symbol) (c : Classes) (are : AreClasses p
       (whole ∙ sym long, subst (λ n. AllByRecursion (λ row. AllByRecursion (λ p. p < n) row) rows) (sym long) (all-from (λ row. AllByRecursion (λ p. p < length states) row) rows entry-below))
 
   module _ (living : List Bool) (lv : AreLiving rows flags living) where
-    abbrev t : Tables
+    abbrev t : AutomatonTables
     t = tables_of rows c.numbers flags living
 
     class-below : (row : List ℕ) (form : Path) → AreFollowers states form c.firsts row → AllByRecursion (λ class. class < length row) c.numbers
@@ -70,6 +73,7 @@ module _ (path : Path) (symbols : List Symbol) (c : Classes) (are : AreClasses p
     is-whole = record {
       entries = all-from (λ row. AllByRecursion (λ class. class < length row) c.numbers × AllByRecursion (λ q. q < length rows) row) rows
           (λ q row e. let form = form-at states c.firsts states rows ex.leads q row e in (class-below row form.0 form.2, subst (λ n. AllByRecursion (λ p. p < n) row) (sym whole) (entry-below q row e)));
+      some = let lt = get-below states 0 (normal_of path) first-state in omega arith;
       flags = map-length takes_empty states ∙ sym whole;
       lives = lv.size ∙ map-length takes_empty states ∙ sym whole;
     }
@@ -87,7 +91,7 @@ module _ (path : Path) (symbols : List Symbol) (c : Classes) (are : AreClasses p
         let r = row-at states c.firsts states rows ex.leads whole q form eq in
         let cl = are.alike k x ek in
         let p = follower states form c.firsts r.0 r.2 cl.0 cl.1 cl.3 in
-        let w = all-get (IsAfter (normal_of path) c.firsts) states q form ex.reached eq in
+        let w = all-get (IsReachedFrom (normal_of path) c.firsts) states q form ex.reached eq in
         let same : derivative_of form cl.1 ≡ derivative_of form x = ap (λ a. derivative_of a cl.1) w.2 ∙ blind path w.0 cl.1 x cl.4 ∙ ap (λ a. derivative_of a x) (sym w.2) in
         let is : step t q k ≡ p.0 = step-is q k cl.0 p.0 r.0 r.1 cl.2 p.1 in
         (r.0, cl.0, r.1, p.1 ∙ ap Some (sym is), ap (slice_get states) is ∙ p.2 ∙ ap Some same)
@@ -110,9 +114,9 @@ module _ (path : Path) (symbols : List Symbol) (c : Classes) (are : AreClasses p
         let s = stepped q k.0 form.0 x.0 form.1 k.1 in
         let same : p ≡ step t q k.0 = one-place states ex.different p (step t q k.0) (derivative_of form.0 x.0) x.2 s.4 in
         let rest = way-word p (get-below states p (derivative_of form.0 x.0) x.2) ps w.1 in
-        (k.0 ∷ rest.0, (get-below symbols k.0 x.0 k.1, rest.1), subst (λ s'. accepts t (state_after t s' rest.0) ≡ true) same rest.2)
+        (k.0 ∷ rest.0, (get-below symbols k.0 x.0 k.1, rest.1), subst (λ s'. accepts t (state_after_numbers t s' rest.0) ≡ true) same rest.2)
 
-    word-way : (q : ℕ) → q < length states → (ks : List ℕ) → AreBelow (length symbols) ks → accepts t (state_after t q ks) ≡ true → IsLive rows flags q
+    word-way : (q : ℕ) → q < length states → (ks : List ℕ) → AreBelow (length symbols) ks → accepts t (state_after_numbers t q ks) ≡ true → IsLive rows flags q
     word-way q lt [] b e = ([], e)
     word-way q lt (k ∷ ks) b e =
         let form = below-get states q lt in
@@ -125,7 +129,7 @@ module _ (path : Path) (symbols : List Symbol) (c : Classes) (are : AreClasses p
     living-is : (q : ℕ) → q < length states → (lives t q ≡ true) ↔ SomeAccepted (length symbols) t q
     living-is q lt = let exact = lv.exact q (omega arith) in (λ e. let way = exact.0 e in way-word q lt way.0 way.1, λ s. exact.1 (word-way q lt s.0 s.1 s.2))
 
-    pub tables-are : AreTablesOf path symbols t states
+    pub tables-are : AreTablesOfPath path symbols t states
     tables-are = record {
       states = states-are;
       count = map-length (λ r. map (entry r) c.numbers) rows ∙ whole;
@@ -137,7 +141,7 @@ module _ (path : Path) (symbols : List Symbol) (c : Classes) (are : AreClasses p
 
     -- The run.
 
-    run : (ks : List ℕ) (w : List Symbol) (q : ℕ) (form : Path) → slice_get states q ≡ Some form → HasNoFunctionUnderNot form → Spells symbols ks w → (accepts t (state_after t q ks) ≡ true) ↔ InLanguage form w
+    run : (ks : List ℕ) (w : List Symbol) (q : ℕ) (form : Path) → slice_get states q ≡ Some form → HasNoFunctionUnderNot form → Spells symbols ks w → (accepts t (state_after_numbers t q ks) ≡ true) ↔ InLanguage form w
     run [] [] q form e n s = (λ a. (empty_word form).0 (sym (accepting-is q form e) ∙ a), λ h. accepting-is q form e ∙ (empty_word form).1 h)
     run [] (x ∷ w) q form e n s = absurd s
     run (k ∷ ks) [] q form e n s = absurd s
@@ -147,8 +151,5 @@ module _ (path : Path) (symbols : List Symbol) (c : Classes) (are : AreClasses p
         let quotient = derivative-quotient form n x w in
         (λ a. quotient.0 (rest.0 a), λ h. rest.1 (quotient.1 h))
 
-    first : slice_get states 0 ≡ Some (normal_of path)
-    first = subst (λ l. slice_get l 0 ≡ Some (normal_of path)) (sym ex.in_order) (all_noted-keeps (normal_of path ∷ []) (flat_map (followers c.firsts) (take (length rows) states)) 0 (normal_of path) refl)
-
-    pub is-automaton : HasNoFunctionUnderNot path → IsAutomatonOf symbols t path
-    is-automaton n = λ ks w s. let at = run ks w 0 (normal_of path) first (normal-under path n) s in let same = normal-takes path n w in (λ a. same.0 (at.0 a), λ h. at.1 (same.1 h))
+    pub is-automaton : HasNoFunctionUnderNot path → AcceptsWordsOf symbols path t
+    is-automaton n = λ ks w s. let at = run ks w 0 (normal_of path) first-state (normal-under path n) s in let same = normal-takes path n w in (λ a. same.0 (at.0 a), λ h. at.1 (same.1 h))

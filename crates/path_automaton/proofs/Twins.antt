@@ -9,9 +9,9 @@ use denote.Hole.Carrier.{hidden}
 use Rattle.path_regex.specs.Normal.{cat_of, alt_of, not_of, normal_of}
 use Rattle.path_regex.specs.Derivatives.{takes_empty, empty_if, has_no_function, is_function, not_if, with_next, derivative_of, derivatives}
 use Rattle.path_regex.proofs.Kept.{IsOfParts, normal-kept, derivative-kept}
-use Rattle.path_automaton.specs.Kinds.{names, some_name, kind_by}
+use Rattle.path_automaton.specs.SeenSymbols.{mentions, some_mention, seen_where}
 use Rattle.path_automaton.specs.Classes.{IsBlind}
-use Rattle.path_automaton.specs.States.{after}
+use Rattle.path_regex.specs.States.{rest_after}
 
 abbrev at_location : ℕ → Symbol → Bool
 at_location l x = has_no_function x.fun && (l == x.loc)
@@ -63,7 +63,7 @@ module _ (x y : Symbol) where
   unfolding hidden-the_row-Path-1 hidden
   derivative-twin a z h = derivative-kept IsTwin twin-parts z (λ b n. n) (λ b n m. not_of-twin (derivative_of b z) m) a h
 
-  after-twin : (a : Path) (w : List Symbol) → IsTwin a → IsTwin (after a w)
+  after-twin : (a : Path) (w : List Symbol) → IsTwin a → IsTwin (rest_after a w)
   after-twin a [] h = h
   after-twin a (z ∷ w) h = after-twin (derivative_of a z) w (derivative-twin a z h)
 
@@ -91,25 +91,25 @@ module _ (x y : Symbol) where
   or-false false b e = (refl, e)
 
   mutual
-    unnamed : (a : Path) → names a x ≡ false → names a y ≡ false → IsTwin a
+    unnamed : (a : Path) → mentions a x ≡ false → mentions a y ≡ false → IsTwin a
     unnamed Nothing e f = tt
     unnamed Empty e f = tt
     unnamed Dot e f = tt
     unnamed (Loc l) e f = e ∙ sym f
     unnamed (Fun g) e f = e ∙ sym f
     unnamed (Cat' s (more_of-Path a end_of-Path) t (more_of-Path b end_of-Path)) e f =
-        let p = or-false (names a x) (names b x) e in
-        let q = or-false (names a y) (names b y) f in
+        let p = or-false (mentions a x) (mentions b x) e in
+        let q = or-false (mentions a y) (mentions b y) f in
         (unnamed a p.0 q.0, unnamed b p.1 q.1)
     unnamed (Alt' s row) e f = each-unnamed row e f
     unnamed (Star' s (more_of-Path a end_of-Path)) e f = unnamed a e f
     unnamed (Not' s (more_of-Path a end_of-Path)) e f = unnamed a e f
 
-    each-unnamed : {n : _} → (row : Row_of-Path n) → some_name row x ≡ false → some_name row y ≡ false → EachTwin row
+    each-unnamed : {n : _} → (row : Row_of-Path n) → some_mention row x ≡ false → some_mention row y ≡ false → EachTwin row
     each-unnamed end_of-Path e f = tt
     each-unnamed (more_of-Path a row) e f =
-        let p = or-false (names a x) (some_name row x) e in
-        let q = or-false (names a y) (some_name row y) f in
+        let p = or-false (mentions a x) (some_mention row x) e in
+        let q = or-false (mentions a y) (some_mention row y) f in
         (unnamed a p.0 q.0, each-unnamed row p.1 q.1)
 
   mutual
@@ -131,7 +131,7 @@ module _ (x y : Symbol) where
 abbrev symbol : ℕ → Option ℕ → Symbol
 symbol l f = record { loc = l; fun = f }
 
-same-kind : (a : Path) (l m : ℕ) (f g : Option ℕ) (s t : Bool) → names a (symbol l f) ≡ s → names a (symbol m g) ≡ t → kind_by s l f ≡ kind_by t m g →
+same-kind : (a : Path) (l m : ℕ) (f g : Option ℕ) (s t : Bool) → mentions a (symbol l f) ≡ s → mentions a (symbol m g) ≡ t → seen_where s l f ≡ seen_where t m g →
     (has_no_function f ≡ has_no_function g) × IsTwin (symbol l f) (symbol m g) a
 same-kind a l m None None true true n o e =
     let same : l ≡ m = cc in
@@ -155,7 +155,7 @@ same-kind a l m (Some f) None false true n o e = cc
 same-kind a l m (Some f) (Some g) false true n o e = cc
 
 -- what the path sees alike, no normal form that is reached from it tells apart
-pub blind : (path : Path) (w : List Symbol) → IsBlind path (λ x. derivative_of (after (normal_of path) w) x)
+pub blind : (path : Path) (w : List Symbol) → IsBlind path (λ x. derivative_of (rest_after (normal_of path) w) x)
 blind path w x y e =
-    let same = same-kind path x.loc y.loc x.fun y.fun (names path x) (names path y) refl refl e in
-    twin-derivative x y same.0 (after (normal_of path) w) (after-twin x y (normal_of path) w (normal-twin x y path same.1))
+    let same = same-kind path x.loc y.loc x.fun y.fun (mentions path x) (mentions path y) refl refl e in
+    twin-derivative x y same.0 (rest_after (normal_of path) w) (after-twin x y (normal_of path) w (normal-twin x y path same.1))

@@ -1,7 +1,7 @@
 pub mod States
 pub mod Shared
 pub mod Automata
-pub mod Kinds
+pub mod SeenSymbols
 pub mod Classes
 pub mod Followed
 pub mod Living

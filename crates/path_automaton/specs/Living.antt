@@ -3,8 +3,8 @@ use Rattle.std.specs.Prelude.{ℕ, suc, ◌≡◌, ◌<◌, ◌≤◌, ◌↔◌
 use Rattle.std.specs.List.{AllByRecursion, list_any, slice_index_or}
 
 -- the states after a state
-abbrev pub row_of : List (List ℕ) → ℕ → List ℕ
-row_of rows q = slice_index_or rows q []
+abbrev pub states_after : List (List ℕ) → ℕ → List ℕ
+states_after rows q = slice_index_or rows q []
 
 abbrev pub is_set : List Bool → ℕ → Bool
 is_set flags q = slice_index_or flags q false
@@ -12,7 +12,7 @@ is_set flags q = slice_index_or flags q false
 -- the states lead on from the first to an accepting one
 abbrev pub IsWay : List (List ℕ) → List Bool → ℕ → List ℕ → Type 0
 IsWay rows accepting q [] = is_set accepting q ≡ true
-IsWay rows accepting q (p ∷ ps) = Contains (row_of rows q) p × IsWay rows accepting p ps
+IsWay rows accepting q (p ∷ ps) = Contains (states_after rows q) p × IsWay rows accepting p ps
 
 abbrev pub IsLive : List (List ℕ) → List Bool → ℕ → Type 0
 IsLive rows accepting q = (ps : List ℕ) × IsWay rows accepting q ps
@@ -33,7 +33,7 @@ dead (false ∷ flags) = suc (dead flags)
 
 -- a flag is set wherever a flag after it is
 abbrev pub AreClosed : List (List ℕ) → List Bool → ℕ → Type 0
-AreClosed rows flags from = (q : ℕ) → from ≤ q → q < length rows → list_any (is_set flags) (row_of rows q) ≡ true → is_set flags q ≡ true
+AreClosed rows flags from = (q : ℕ) → from ≤ q → q < length rows → list_any (is_set flags) (states_after rows q) ≡ true → is_set flags q ≡ true
 
 -- what one round over the states from one on makes of the flags
 pub record IsSpread (rows : List (List ℕ)) (from : ℕ) (old new : List Bool) (changed : Bool) : Type 0 where

@@ -3,8 +3,8 @@ use Rattle.std.specs.Prelude.{ℕ, ◌≡◌, ◌<◌, ⊤, List, [], ◌∷◌,
 use Rattle.std.specs.List.{AllByRecursion, slice_index_or}
 use Rattle.merlin_model.specs.declared.policy.Path.{Path, Nothing, Empty, Dot, Loc, Fun, Cat, Alt, Star, Not}
 use Rattle.path_regex.specs.Normal.{members}
-use Rattle.path_automaton.specs.declared.forms.Node.{Node}
-use Rattle.path_automaton.specs.declared.forms.Node.TheVariants.{Nothing as NodeNothing, Empty as NodeEmpty, Dot as NodeDot, Loc as NodeLoc, Fun as NodeFun, Cat as NodeCat, Alt as NodeAlt, Star as NodeStar, Not as NodeNot}
+use Rattle.path_automaton.specs.declared.forms.FormNode.{FormNode}
+use Rattle.path_automaton.specs.declared.forms.FormNode.TheVariants.{Nothing as NodeNothing, Empty as NodeEmpty, Dot as NodeDot, Loc as NodeLoc, Fun as NodeFun, Cat as NodeCat, Alt as NodeAlt, Star as NodeStar, Not as NodeNot}
 
 -- the form at a place
 abbrev pub form_at : List Path → ℕ → Path
@@ -20,7 +20,7 @@ abbrev pub IsChain : Path → Type 0
 IsChain a = a ≡ alt_by (members a)
 
 -- the form with these parts
-abbrev pub meaning : List Path → Node → Path
+abbrev pub meaning : List Path → FormNode → Path
 meaning forms NodeNothing = Nothing
 meaning forms NodeEmpty = Empty
 meaning forms NodeDot = Dot
@@ -32,43 +32,43 @@ meaning forms (NodeStar a) = Star (form_at forms a)
 meaning forms (NodeNot a) = Not (form_at forms a)
 
 -- the forms of nodes, each by the forms before it
-abbrev pub meanings : List Path → List Node → List Path
+abbrev pub meanings : List Path → List FormNode → List Path
 meanings forms [] = forms
 meanings forms (n ∷ nodes) = meanings (forms ++ meaning forms n ∷ []) nodes
 
 -- the parts stand at places below the bound, and the members of an Alt go on with an Alt
-abbrev pub IsGrounded : ℕ → List Path → Node → Type 0
-IsGrounded bound forms (NodeCat a b) = (a < bound) × (b < bound)
-IsGrounded bound forms (NodeAlt a t) = (a < bound) × (t < bound) × IsChain (form_at forms t)
-IsGrounded bound forms (NodeStar a) = a < bound
-IsGrounded bound forms (NodeNot a) = a < bound
-IsGrounded bound forms _ = ⊤
+abbrev pub PartsStandBefore : ℕ → List Path → FormNode → Type 0
+PartsStandBefore bound forms (NodeCat a b) = (a < bound) × (b < bound)
+PartsStandBefore bound forms (NodeAlt a t) = (a < bound) × (t < bound) × IsChain (form_at forms t)
+PartsStandBefore bound forms (NodeStar a) = a < bound
+PartsStandBefore bound forms (NodeNot a) = a < bound
+PartsStandBefore bound forms _ = ⊤
 
 -- the node has the parts of the form at the place
-abbrev pub IsNode : List Path → ℕ → Node → Type 0
-IsNode forms k n = IsGrounded k forms n × (form_at forms k ≡ meaning forms n)
+abbrev pub IsNode : List Path → ℕ → FormNode → Type 0
+IsNode forms k n = PartsStandBefore k forms n × (form_at forms k ≡ meaning forms n)
 
 -- no form stands at two places
 abbrev pub AreDistinct : List Path → Type 0
 AreDistinct forms = (i j : ℕ) → i < length forms → j < length forms → form_at forms i ≡ form_at forms j → i ≡ j
 
 -- the nodes have the parts of the forms
-pub record AreNodes (nodes : List Node) (forms : List Path) : Type 0 where
+pub record AreNodes (nodes : List FormNode) (forms : List Path) : Type 0 where
   pub long : length forms ≡ length nodes
-  pub each : (k : ℕ) (n : Node) → slice_get nodes k ≡ Some n → IsNode forms k n
+  pub each : (k : ℕ) (n : FormNode) → slice_get nodes k ≡ Some n → IsNode forms k n
   pub distinct : AreDistinct forms
 
 -- forms were added behind others
-pub record Grows (old new : List Path) : Type 0 where
+pub record AddsForms (old new : List Path) : Type 0 where
   pub more : List Path
   pub is : new ≡ old ++ more
 
 -- the form stands at the place
-abbrev pub Names : List Path → ℕ → Path → Type 0
-Names forms k a = (k < length forms) × (form_at forms k ≡ a)
+abbrev pub IsFormAt : List Path → ℕ → Path → Type 0
+IsFormAt forms k a = (k < length forms) × (form_at forms k ≡ a)
 
 -- the place of the node's variant, from 1
-abbrev pub node_rank : Node → ℕ
+abbrev pub node_rank : FormNode → ℕ
 node_rank NodeNothing = 1
 node_rank NodeEmpty = 2
 node_rank NodeDot = 3

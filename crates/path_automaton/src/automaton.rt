@@ -3,7 +3,7 @@
 ghost use Rattle.std.specs.Prelude.{◌≡◌, ◌<◌, length, map, IfOk};
 ghost use Rattle.path_regex.specs.Derivatives.{takes_empty};
 ghost use Rattle.path_regex.specs.Functions.{HasNoFunctionUnderNot};
-ghost use Rattle.path_automaton.specs.Automata.{step, accepts, lives, IsAutomatonOf};
+ghost use Rattle.path_automaton.specs.Automata.{step, accepts, lives, AcceptsWordsOf};
 ghost use Rattle.path_automaton.specs.Built.{IsBuilt};
 
 use crate::classes::Classes;
@@ -27,9 +27,9 @@ pub struct Automaton {
 }
 
 impl Model for Automaton {
-    ghost use Rattle.path_automaton.specs.Automata.{Tables};
+    ghost use Rattle.path_automaton.specs.Automata.{AutomatonTables};
 
-    ghost Value = { Tables };
+    ghost Value = { AutomatonTables };
 
     ghost use Rattle.path_automaton.specs.Inside.{tables_of, AreWhole};
 
@@ -39,9 +39,10 @@ impl Model for Automaton {
 }
 
 impl Automaton {
-    /// The number of states.
+    /// The number of states. There is a first one.
     pub fn states(&self) -> usize
-        ensures { result ≡ length self.now.steps }
+        ensures count { result ≡ length self.now.steps }
+        ensures some { 0 < result }
     {
         self.rows.len()
     }
@@ -91,12 +92,13 @@ fn accepting(alloc: Global, states: &States) -> Result<Items<bool>, OutOfMemory>
     Ok(flags)
 }
 
-/// The automaton of a path over the symbols. Its states are the normal forms that are reached from the
-/// path, numbered in the order in which they are found: states in turn, symbols in order. Where no
-/// function stands under a Not it accepts exactly the words of the path.
+/// The automaton of a path over the symbols, of at most `MAX_STATES` states. Its states are the normal
+/// forms that are reached from the path, numbered in the order in which they are found: states in
+/// turn, symbols in order. Where no function stands under a Not it accepts the words of the path.
 pub fn build(alloc: Global, path: &Path, symbols: &[Symbol]) -> Result<Automaton, AutomatonFault>
     ensures built { IsBuilt path.now symbols.now result }
-    ensures language { HasNoFunctionUnderNot path.now → IfOk result (λ automaton. IsAutomatonOf symbols.now automaton path.now) }
+    ensures language { HasNoFunctionUnderNot path.now →
+        IfOk result (AcceptsWordsOf symbols.now path.now) }
 {
     let Classes { numbers, firsts } = Classes::new(alloc, path, symbols)?;
     let Explored { states, rows } = explore(alloc, path, firsts.as_slice())?;

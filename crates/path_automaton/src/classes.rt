@@ -1,10 +1,11 @@
 //! Classes of symbols that a path cannot tell apart.
 
-ghost use Rattle.std.specs.Prelude.{◌≡◌, ℕ, List, length, map, slice_get, Some, IfOk, IfSome};
+ghost use Rattle.std.specs.Prelude.{◌≡◌, ℕ, List, length, map, slice_get, Some, Contains};
+ghost use Rattle.std.specs.Prelude.{IfOk, MatchOption};
 ghost use Rattle.std.specs.List.{AllByRecursion};
 ghost use Rattle.merlin_model.specs.declared.policy.Symbol.{Symbol};
 ghost use Rattle.merlin_model.specs.declared.policy.Path.{Path};
-ghost use Rattle.path_automaton.specs.Kinds.{names as named, kind_of};
+ghost use Rattle.path_automaton.specs.SeenSymbols.{mentions as mentioned, seen_by as seen};
 ghost use Rattle.path_automaton.specs.Classes.{AreClasses};
 
 use merlin_model::OutOfMemory;
@@ -14,7 +15,7 @@ use std::alloc::Global;
 
 /// A symbol as a path sees it: those that it doesn't name look alike.
 #[derive(Clone, Copy, PartialEq, Eq)]
-pub enum Kind {
+pub enum SeenSymbol {
     Location(usize),
     Function(usize),
     OtherLocation,
@@ -22,41 +23,42 @@ pub enum Kind {
 }
 
 /// Whether the path names the symbol's function, or its location where it has none.
-fn names(path: &Path, symbol: Symbol) -> bool
-    ensures { result ≡ named path.now symbol }
+fn mentions(path: &Path, symbol: Symbol) -> bool
+    ensures { result ≡ mentioned path.now symbol }
 {
     match path {
         Path::Nothing | Path::Empty | Path::Dot => false,
         Path::Loc(loc) => symbol.fun.is_none() && *loc == symbol.loc,
         Path::Fun(fun) => symbol.fun == Some(*fun),
-        Path::Cat(first, rest) => names(first.get(), symbol) || names(rest.get(), symbol),
+        Path::Cat(first, rest) => mentions(first.get(), symbol) || mentions(rest.get(), symbol),
         Path::Alt(paths) => {
             for path in paths.as_slice() {
-                if names(path, symbol) {
+                if mentions(path, symbol) {
                     return true;
                 }
             }
             false
         }
-        Path::Star(inner) | Path::Not(inner) => names(inner.get(), symbol),
+        Path::Star(inner) | Path::Not(inner) => mentions(inner.get(), symbol),
     }
 }
 
 /// The symbol as the path sees it.
-fn seen_as(path: &Path, symbol: Symbol) -> Kind
-    ensures { result ≡ kind_of path.now symbol }
+fn seen_by(path: &Path, symbol: Symbol) -> SeenSymbol
+    ensures { result ≡ seen path.now symbol }
 {
-    match (names(path, symbol), symbol.fun) {
-        (true, None) => Kind::Location(symbol.loc),
-        (true, Some(fun)) => Kind::Function(fun),
-        (false, None) => Kind::OtherLocation,
-        (false, Some(_)) => Kind::OtherFunction,
+    match (mentions(path, symbol), symbol.fun) {
+        (true, None) => SeenSymbol::Location(symbol.loc),
+        (true, Some(fun)) => SeenSymbol::Function(fun),
+        (false, None) => SeenSymbol::OtherLocation,
+        (false, Some(_)) => SeenSymbol::OtherFunction,
     }
 }
 
-/// A place of the kind.
-fn class_of(kinds: &[Kind], kind: Kind) -> Option<usize>
-    ensures { IfSome result (λ class. slice_get kinds.now class ≡ Some kind) }
+/// The place of the kind, or none where it has no place.
+fn class_of(kinds: &[SeenSymbol], kind: SeenSymbol) -> Option<usize>
+    ensures { MatchOption result (¬ Contains kinds.now kind) (λ class.
+        slice_get kinds.now class ≡ Some kind) }
 {
     for (class, other) in kinds.iter().enumerate() {
         if *other == kind {
@@ -74,7 +76,8 @@ pub struct Classes {
 }
 
 impl Classes {
-    /// Symbols that the path sees alike are of one class. The classes are numbered by their first symbols.
+    /// Symbols that the path sees alike are of one class, and others of different ones. The classes
+    /// are numbered by their first symbols.
     pub fn new(alloc: Global, path: &Path, symbols: &[Symbol]) -> Result<Classes, OutOfMemory>
         ensures { IfOk result (AreClasses path.now symbols.now) }
     {
@@ -82,7 +85,7 @@ impl Classes {
         let mut firsts = Items::new(alloc);
         let mut kinds = Items::new(alloc);
         for symbol in symbols {
-            let kind = seen_as(path, *symbol);
+            let kind = seen_by(path, *symbol);
             match class_of(kinds.as_slice(), kind) {
                 Some(class) => numbers.push(class)?,
                 None => {

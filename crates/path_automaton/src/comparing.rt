@@ -2,25 +2,25 @@
 
 ghost use Rattle.std.specs.Prelude.{◌≡◌, ◌<◌, length};
 ghost use Rattle.path_regex.specs.Order.{order};
-ghost use Rattle.path_automaton.specs.Shared.{form_at, node_rank};
+ghost use Rattle.path_automaton.specs.Shared.{form_at, node_rank as rank_of};
 
-use crate::forms::{Forms, Node};
+use crate::forms::{FormNode, Forms};
 use std::cmp::Ordering;
 
 /// The place of the node's variant, from 1.
-fn rank(node: Node) -> u8
-    ensures { result ≡ node_rank node }
+fn node_rank(node: FormNode) -> u8
+    ensures { result ≡ rank_of node }
 {
     match node {
-        Node::Nothing => 1,
-        Node::Empty => 2,
-        Node::Dot => 3,
-        Node::Loc(_) => 4,
-        Node::Fun(_) => 5,
-        Node::Cat(_, _) => 6,
-        Node::Alt(_, _) => 7,
-        Node::Star(_) => 8,
-        Node::Not(_) => 9,
+        FormNode::Nothing => 1,
+        FormNode::Empty => 2,
+        FormNode::Dot => 3,
+        FormNode::Loc(_) => 4,
+        FormNode::Fun(_) => 5,
+        FormNode::Cat(_, _) => 6,
+        FormNode::Alt(_, _) => 7,
+        FormNode::Star(_) => 8,
+        FormNode::Not(_) => 9,
     }
 }
 
@@ -36,37 +36,37 @@ impl Forms {
         }
         let one = self.node(first);
         let two = self.node(second);
-        let ranks = rank(one).cmp(&rank(two));
+        let ranks = node_rank(one).cmp(&node_rank(two));
         match one {
-            Node::Nothing | Node::Empty | Node::Dot => ranks,
-            Node::Loc(place) => match two {
-                Node::Loc(other) => place.cmp(&other),
+            FormNode::Nothing | FormNode::Empty | FormNode::Dot => ranks,
+            FormNode::Loc(place) => match two {
+                FormNode::Loc(other) => place.cmp(&other),
                 _ => ranks,
             },
-            Node::Fun(function) => match two {
-                Node::Fun(other) => function.cmp(&other),
+            FormNode::Fun(function) => match two {
+                FormNode::Fun(other) => function.cmp(&other),
                 _ => ranks,
             },
-            Node::Cat(head, rest) => match two {
-                Node::Cat(other, others) => match self.compare(head, other) {
+            FormNode::Cat(head, rest) => match two {
+                FormNode::Cat(other, others) => match self.compare(head, other) {
                     Ordering::Equal => self.compare(rest, others),
                     decided => decided,
                 },
                 _ => ranks,
             },
-            Node::Alt(head, rest) => match two {
-                Node::Alt(other, others) => match self.compare(head, other) {
+            FormNode::Alt(head, rest) => match two {
+                FormNode::Alt(other, others) => match self.compare(head, other) {
                     Ordering::Equal => self.compare(rest, others),
                     decided => decided,
                 },
                 _ => ranks,
             },
-            Node::Star(inner) => match two {
-                Node::Star(other) => self.compare(inner, other),
+            FormNode::Star(inner) => match two {
+                FormNode::Star(other) => self.compare(inner, other),
                 _ => ranks,
             },
-            Node::Not(inner) => match two {
-                Node::Not(other) => self.compare(inner, other),
+            FormNode::Not(inner) => match two {
+                FormNode::Not(other) => self.compare(inner, other),
                 _ => ranks,
             },
         }

@@ -4,7 +4,7 @@ ghost use Rattle.std.specs.Prelude.{◌≡◌, ◌<◌, ◌≤◌, length};
 ghost use Rattle.merlin_model.specs.declared.policy.Path.{Nothing};
 ghost use Rattle.std.proofs.Common.{get_or};
 ghost use Rattle.path_regex.specs.Normal.{normal_of};
-ghost use Rattle.path_automaton.specs.Followed.{IsRow, IsExplored};
+ghost use Rattle.path_automaton.specs.Followed.{IsFollowed, IsExplored};
 
 use crate::fault::AutomatonFault;
 use crate::states::States;
@@ -12,8 +12,8 @@ use merlin_model::policy::{Path, Symbol};
 use sqlite_items::Items;
 use std::alloc::Global;
 
-/// The greatest number of states.
-pub const LIMIT: usize = 2048;
+/// The greatest number of states of an automaton.
+pub const MAX_STATES: usize = 2048;
 
 /// Follows a state by each of the symbols, and gives the states after them.
 fn row(
@@ -23,15 +23,15 @@ fn row(
     symbols: &[Symbol],
 ) -> Result<Items<usize>, AutomatonFault>
     requires within { state < length states.old }
-    requires few { length states.old ≤ 2048 }
-    ensures { IsRow states.old (get_or states.old state Nothing) symbols.now states.new result }
+    requires few { length states.old ≤ MAX_STATES }
+    ensures { IsFollowed states.old (get_or states.old state Nothing) symbols.now states.new result }
 {
     let mut places = Items::new(alloc);
     for symbol in symbols {
         let place = states.follow(state, *symbol)?;
-        if LIMIT < states.len() {
+        if MAX_STATES < states.len() {
             return Err(AutomatonFault::TooManyStates {
-                count: LIMIT as u64 + 1,
+                count: MAX_STATES as u64 + 1,
             });
         }
         places.push(place)?;

@@ -1,17 +1,18 @@
 //! Normal forms that share their parts: each is kept once, and is named by its place.
 
 ghost use Rattle.std.specs.Prelude.{◌≡◌, ◌<◌, [], length, IfOk};
-ghost use Rattle.path_automaton.specs.Shared.{meaning, IsGrounded, IsNode, AreDistinct, Grows, Names};
+ghost use Rattle.path_automaton.specs.Shared.{meaning, PartsStandBefore, IsNode, AreDistinct};
+ghost use Rattle.path_automaton.specs.Shared.{AddsForms, IsFormAt};
 
 use indexmap::IndexSet;
 use merlin_model::OutOfMemory;
 use std::alloc::Global;
 use std::marker::Model;
 
-/// A normal form by the places of its parts, which stand before it. An Alt has its first member and the
-/// Alt of the others, which is Nothing where there is none.
+/// A normal form by the places of its parts, which stand before it. An Alt has its first member and
+/// the Alt of the others, which is Nothing where there is none.
 #[derive(Clone, Copy, PartialEq, Eq, Hash)]
-pub enum Node {
+pub enum FormNode {
     Nothing,
     Empty,
     Dot,
@@ -26,7 +27,7 @@ pub enum Node {
 /// Normal forms, each once.
 #[derive(Drop)]
 pub struct Forms {
-    nodes: IndexSet<Node>,
+    nodes: IndexSet<FormNode>,
 }
 
 impl Model for Forms {
@@ -56,21 +57,21 @@ impl Forms {
     }
 
     /// The parts of a normal form.
-    pub fn node(&self, form: usize) -> Node
+    pub fn node(&self, form: usize) -> FormNode
         requires { form < length self.now }
         ensures { IsNode self.now form result }
     {
         match self.nodes.get_index(form) {
             Some(node) => *node,
-            None => Node::Nothing,
+            None => FormNode::Nothing,
         }
     }
 
     /// The place of the normal form with these parts.
-    pub fn put(&mut self, node: Node) -> Result<usize, OutOfMemory>
-        requires { IsGrounded (length self.old) self.old node }
-        ensures grows { Grows self.old self.new }
-        ensures value { IfOk result (λ form. Names self.new form (meaning self.old node)) }
+    pub fn put(&mut self, node: FormNode) -> Result<usize, OutOfMemory>
+        requires { PartsStandBefore (length self.old) self.old node }
+        ensures grows { AddsForms self.old self.new }
+        ensures value { IfOk result (λ form. IsFormAt self.new form (meaning self.old node)) }
     {
         let (form, _) = self.nodes.insert_full(node)?;
         Ok(form)

@@ -2,10 +2,12 @@
 
 ghost use Rattle.std.specs.Prelude.{◌≡◌, ◌<◌, ◌∷◌, length, map, IfOk};
 ghost use Rattle.std.specs.List.{AllByRecursion, flat_map};
-ghost use Rattle.path_regex.specs.Normal.{before as before_of, cat_of as cat, members, added as added_to, added_all, one_of as one, alt_of as alt, star_of as star, not_of as complement, normal_of};
-ghost use Rattle.path_automaton.specs.Shared.{form_at, alt_by, IsChain, Grows, Names};
+ghost use Rattle.path_regex.specs.Normal.{grouped_cat as grouped, cat_of as cat, star_of as star};
+ghost use Rattle.path_regex.specs.Normal.{members, added as added_to, added_all, normal_of};
+ghost use Rattle.path_regex.specs.Normal.{one_of as one, alt_of as alt, not_of as complement};
+ghost use Rattle.path_automaton.specs.Shared.{form_at, alt_by, IsChain, AddsForms, IsFormAt};
 
-use crate::forms::{Forms, Node};
+use crate::forms::{FormNode, Forms};
 use merlin_model::OutOfMemory;
 use merlin_model::policy::Path;
 use sqlite_items::Items;
@@ -14,20 +16,21 @@ use std::cmp::Ordering;
 
 impl Forms {
     /// The first followed by the rest, which is neither Nothing nor Empty.
-    fn before(&mut self, first: usize, rest: usize) -> Result<usize, OutOfMemory>
+    fn grouped_cat(&mut self, first: usize, rest: usize) -> Result<usize, OutOfMemory>
         requires first { first < length self.old }
         requires rest { rest < length self.old }
-        ensures grows { Grows self.old self.new }
-        ensures value { IfOk result (λ form. Names self.new form (before_of (form_at self.old first) (form_at self.old rest))) }
+        ensures grows { AddsForms self.old self.new }
+        ensures value { IfOk result (λ form.
+            IsFormAt self.new form (grouped (form_at self.old first) (form_at self.old rest))) }
     {
         match self.node(first) {
-            Node::Nothing => Ok(first),
-            Node::Empty => Ok(rest),
-            Node::Cat(head, tail) => {
-                let tail = self.before(tail, rest)?;
-                self.put(Node::Cat(head, tail))
+            FormNode::Nothing => Ok(first),
+            FormNode::Empty => Ok(rest),
+            FormNode::Cat(head, tail) => {
+                let tail = self.grouped_cat(tail, rest)?;
+                self.put(FormNode::Cat(head, tail))
             }
-            _ => self.put(Node::Cat(first, rest)),
+            _ => self.put(FormNode::Cat(first, rest)),
         }
     }
 
@@ -35,13 +38,14 @@ impl Forms {
     pub fn cat_of(&mut self, first: usize, rest: usize) -> Result<usize, OutOfMemory>
         requires first { first < length self.old }
         requires rest { rest < length self.old }
-        ensures grows { Grows self.old self.new }
-        ensures value { IfOk result (λ form. Names self.new form (cat (form_at self.old first) (form_at self.old rest))) }
+        ensures grows { AddsForms self.old self.new }
+        ensures value { IfOk result (λ form.
+            IsFormAt self.new form (cat (form_at self.old first) (form_at self.old rest))) }
     {
         match self.node(rest) {
-            Node::Nothing => Ok(rest),
-            Node::Empty => Ok(first),
-            _ => self.before(first, rest),
+            FormNode::Nothing => Ok(rest),
+            FormNode::Empty => Ok(first),
+            _ => self.grouped_cat(first, rest),
         }
     }
 
@@ -50,18 +54,20 @@ impl Forms {
         requires form { form < length self.old }
         requires others { others < length self.old }
         requires chain { IsChain (form_at self.old others) }
-        ensures grows { Grows self.old self.new }
-        ensures value { IfOk result (λ all. Names self.new all (alt_by (added_to (form_at self.old form) (members (form_at self.old others))))) }
+        ensures grows { AddsForms self.old self.new }
+        ensures value { IfOk result (λ all.
+            IsFormAt self.new all
+            (alt_by (added_to (form_at self.old form) (members (form_at self.old others))))) }
     {
-        let Node::Alt(other, rest) = self.node(others) else {
-            return self.put(Node::Alt(form, others));
+        let FormNode::Alt(other, rest) = self.node(others) else {
+            return self.put(FormNode::Alt(form, others));
         };
         match self.compare(form, other) {
-            Ordering::Less => self.put(Node::Alt(form, others)),
+            Ordering::Less => self.put(FormNode::Alt(form, others)),
             Ordering::Equal => Ok(others),
             Ordering::Greater => {
                 let rest = self.added(form, rest)?;
-                self.put(Node::Alt(other, rest))
+                self.put(FormNode::Alt(other, rest))
             }
         }
     }
@@ -71,12 +77,14 @@ impl Forms {
         requires form { form < length self.old }
         requires others { others < length self.old }
         requires chain { IsChain (form_at self.old others) }
-        ensures grows { Grows self.old self.new }
-        ensures value { IfOk result (λ all. Names self.new all (alt_by (added_all (members (form_at self.old form)) (members (form_at self.old others))))) }
+        ensures grows { AddsForms self.old self.new }
+        ensures value { IfOk result (λ all.
+            IsFormAt self.new all (alt_by
+            (added_all (members (form_at self.old form)) (members (form_at self.old others))))) }
     {
         match self.node(form) {
-            Node::Nothing => Ok(others),
-            Node::Alt(first, rest) => {
+            FormNode::Nothing => Ok(others),
+            FormNode::Alt(first, rest) => {
                 let others = self.all_added(rest, others)?;
                 self.added(first, others)
             }
@@ -88,13 +96,13 @@ impl Forms {
     pub fn one_of(&self, all: usize) -> usize
         requires within { all < length self.now }
         requires chain { IsChain (form_at self.now all) }
-        ensures { Names self.now result (one (members (form_at self.now all))) }
+        ensures { IsFormAt self.now result (one (members (form_at self.now all))) }
     {
-        let Node::Alt(first, rest) = self.node(all) else {
+        let FormNode::Alt(first, rest) = self.node(all) else {
             return all;
         };
         match self.node(rest) {
-            Node::Nothing => first,
+            FormNode::Nothing => first,
             _ => all,
         }
     }
@@ -102,35 +110,38 @@ impl Forms {
     /// Any number of the form, one after another.
     fn star_of(&mut self, form: usize) -> Result<usize, OutOfMemory>
         requires { form < length self.old }
-        ensures grows { Grows self.old self.new }
-        ensures value { IfOk result (λ repeated. Names self.new repeated (star (form_at self.old form))) }
+        ensures grows { AddsForms self.old self.new }
+        ensures value { IfOk result (λ repeated.
+            IsFormAt self.new repeated (star (form_at self.old form))) }
     {
         match self.node(form) {
-            Node::Nothing | Node::Empty => self.put(Node::Empty),
-            Node::Star(_) => Ok(form),
-            _ => self.put(Node::Star(form)),
+            FormNode::Nothing | FormNode::Empty => self.put(FormNode::Empty),
+            FormNode::Star(_) => Ok(form),
+            _ => self.put(FormNode::Star(form)),
         }
     }
 
     /// What the form does not take, of words without functions.
     pub fn not_of(&mut self, form: usize) -> Result<usize, OutOfMemory>
         requires { form < length self.old }
-        ensures grows { Grows self.old self.new }
-        ensures value { IfOk result (λ others. Names self.new others (complement (form_at self.old form))) }
+        ensures grows { AddsForms self.old self.new }
+        ensures value { IfOk result (λ others.
+            IsFormAt self.new others (complement (form_at self.old form))) }
     {
         match self.node(form) {
-            Node::Not(inner) => Ok(inner),
-            _ => self.put(Node::Not(form)),
+            FormNode::Not(inner) => Ok(inner),
+            _ => self.put(FormNode::Not(form)),
         }
     }
 
     /// Any one of the forms, of which an Alt stands for its members.
     pub fn alt_of(&mut self, mut forms: Items<usize>) -> Result<usize, OutOfMemory>
         requires { AllByRecursion (λ form. form < length self.old) forms }
-        ensures grows { Grows self.old self.new }
-        ensures value { IfOk result (λ form. Names self.new form (alt (map (form_at self.old) forms))) }
+        ensures grows { AddsForms self.old self.new }
+        ensures value { IfOk result (λ form.
+            IsFormAt self.new form (alt (map (form_at self.old) forms))) }
     {
-        let mut all = self.put(Node::Nothing)?;
+        let mut all = self.put(FormNode::Nothing)?;
         while let Some(form) = forms.pop() {
             all = self.all_added(form, all)?;
         }
@@ -139,15 +150,15 @@ impl Forms {
 
     /// The normal form of a path.
     pub fn normal(&mut self, alloc: Global, path: &Path) -> Result<usize, OutOfMemory>
-        ensures grows { Grows self.old self.new }
-        ensures value { IfOk result (λ form. Names self.new form (normal_of path.now)) }
+        ensures grows { AddsForms self.old self.new }
+        ensures value { IfOk result (λ form. IsFormAt self.new form (normal_of path.now)) }
     {
         match path {
-            Path::Nothing => self.put(Node::Nothing),
-            Path::Empty => self.put(Node::Empty),
-            Path::Dot => self.put(Node::Dot),
-            Path::Loc(loc) => self.put(Node::Loc(*loc)),
-            Path::Fun(fun) => self.put(Node::Fun(*fun)),
+            Path::Nothing => self.put(FormNode::Nothing),
+            Path::Empty => self.put(FormNode::Empty),
+            Path::Dot => self.put(FormNode::Dot),
+            Path::Loc(loc) => self.put(FormNode::Loc(*loc)),
+            Path::Fun(fun) => self.put(FormNode::Fun(*fun)),
             Path::Cat(first, rest) => {
                 let first = self.normal(alloc, first.get())?;
                 let rest = self.normal(alloc, rest.get())?;

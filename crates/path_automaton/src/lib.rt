@@ -8,10 +8,12 @@ mod exploring;
 mod fault;
 mod forms;
 mod joining;
+pub mod laws;
 mod living;
 mod states;
 mod stepping;
 
 pub use automaton::{Automaton, build};
+pub use exploring::MAX_STATES;
 pub use fault::AutomatonFault;
 pub use merlin_model::OutOfMemory;

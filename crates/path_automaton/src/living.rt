@@ -21,8 +21,8 @@ fn some_live(row: &[usize], living: &[bool]) -> bool
     false
 }
 
-/// Marks the states with a living state after them, from the last state to the first, and says whether
-/// there was a new one.
+/// Marks the states with a living state after them, from the last state to the first, and says
+/// whether there was a new one.
 fn spread(rows: &[Items<usize>], living: &mut Items<bool>) -> bool
     requires { AreInside rows.now (length living.old) }
     ensures { IsSpread rows.now 0 living.old living.new result }

@@ -5,7 +5,7 @@ ghost use Rattle.std.proofs.Common.{get_or};
 ghost use Rattle.merlin_model.specs.declared.policy.Path.{Nothing};
 ghost use Rattle.path_regex.specs.Normal.{normal_of};
 ghost use Rattle.path_regex.specs.Derivatives.{takes_empty, derivative_of};
-ghost use Rattle.path_automaton.specs.States.{noted};
+ghost use Rattle.path_automaton.specs.States.{with_new};
 
 use crate::forms::Forms;
 use indexmap::IndexSet;
@@ -59,8 +59,10 @@ impl States {
     /// The state after a symbol, which is a new one unless its normal form is there.
     pub fn follow(&mut self, state: usize, symbol: Symbol) -> Result<usize, OutOfMemory>
         requires { state < length self.old }
-        ensures noted { OnOk result (self.new ≡ noted self.old (derivative_of (get_or self.old state Nothing) symbol)) }
-        ensures place { IfOk result (λ at. slice_get self.new at ≡ Some (derivative_of (get_or self.old state Nothing) symbol)) }
+        ensures with_new { OnOk result (
+            self.new ≡ with_new self.old (derivative_of (get_or self.old state Nothing) symbol)) }
+        ensures place { IfOk result (λ at.
+            slice_get self.new at ≡ Some (derivative_of (get_or self.old state Nothing) symbol)) }
     {
         let form = self.found.as_slice()[state];
         let next = self.forms.derivative(form, symbol)?;

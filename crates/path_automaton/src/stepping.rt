@@ -2,11 +2,12 @@
 
 ghost use Rattle.std.specs.Prelude.{◌≡◌, ◌<◌, ◌∷◌, [], length, map, IfOk};
 ghost use Rattle.std.specs.List.{flat_map};
-ghost use Rattle.path_regex.specs.Normal.{members, ascending, alt_of as alt};
-ghost use Rattle.path_regex.specs.Derivatives.{takes_empty as takes, empty_if as when, derivative_of};
-ghost use Rattle.path_automaton.specs.Shared.{form_at, alt_by, IsChain, Grows, Names};
+ghost use Rattle.path_regex.specs.Normal.{members, in_order_of, alt_of as alt};
+ghost use Rattle.path_regex.specs.Derivatives.{takes_empty as takes, empty_if as when};
+ghost use Rattle.path_regex.specs.Derivatives.{derivative_of};
+ghost use Rattle.path_automaton.specs.Shared.{form_at, alt_by, IsChain, AddsForms, IsFormAt};
 
-use crate::forms::{Forms, Node};
+use crate::forms::{FormNode, Forms};
 use merlin_model::OutOfMemory;
 use merlin_model::policy::Symbol;
 
@@ -17,30 +18,35 @@ impl Forms {
         ensures { result ≡ takes (form_at self.now form) }
     {
         match self.node(form) {
-            Node::Nothing | Node::Dot | Node::Loc(_) | Node::Fun(_) => false,
-            Node::Empty | Node::Star(_) => true,
-            Node::Cat(first, rest) => self.takes_empty(first) && self.takes_empty(rest),
-            Node::Alt(first, rest) => self.takes_empty(first) || self.takes_empty(rest),
-            Node::Not(inner) => !self.takes_empty(inner),
+            FormNode::Nothing | FormNode::Dot | FormNode::Loc(_) | FormNode::Fun(_) => false,
+            FormNode::Empty | FormNode::Star(_) => true,
+            FormNode::Cat(first, rest) => self.takes_empty(first) && self.takes_empty(rest),
+            FormNode::Alt(first, rest) => self.takes_empty(first) || self.takes_empty(rest),
+            FormNode::Not(inner) => !self.takes_empty(inner),
         }
     }
 
     /// The empty word alone, or nothing.
     fn empty_if(&mut self, taken: bool) -> Result<usize, OutOfMemory>
-        ensures grows { Grows self.old self.new }
-        ensures value { IfOk result (λ form. Names self.new form (when taken)) }
+        ensures grows { AddsForms self.old self.new }
+        ensures value { IfOk result (λ form. IsFormAt self.new form (when taken)) }
     {
-        self.put(if taken { Node::Empty } else { Node::Nothing })
+        self.put(if taken {
+            FormNode::Empty
+        } else {
+            FormNode::Nothing
+        })
     }
 
     /// Either of two forms.
     fn either(&mut self, first: usize, second: usize) -> Result<usize, OutOfMemory>
         requires first { first < length self.old }
         requires second { second < length self.old }
-        ensures grows { Grows self.old self.new }
-        ensures value { IfOk result (λ form. Names self.new form (alt (form_at self.old first ∷ form_at self.old second ∷ []))) }
+        ensures grows { AddsForms self.old self.new }
+        ensures value { IfOk result (λ form.
+            IsFormAt self.new form (alt (form_at self.old first ∷ form_at self.old second ∷ []))) }
     {
-        let none = self.put(Node::Nothing)?;
+        let none = self.put(FormNode::Nothing)?;
         let one = self.all_added(second, none)?;
         let all = self.all_added(first, one)?;
         Ok(self.one_of(all))
@@ -50,15 +56,16 @@ impl Forms {
     #[cycle(stepping)]
     pub fn derivative(&mut self, form: usize, symbol: Symbol) -> Result<usize, OutOfMemory>
         requires { form < length self.old }
-        ensures grows { Grows self.old self.new }
-        ensures value { IfOk result (λ rest. Names self.new rest (derivative_of (form_at self.old form) symbol)) }
+        ensures grows { AddsForms self.old self.new }
+        ensures value { IfOk result (λ rest.
+            IsFormAt self.new rest (derivative_of (form_at self.old form) symbol)) }
     {
         match self.node(form) {
-            Node::Nothing | Node::Empty => self.put(Node::Nothing),
-            Node::Dot => self.empty_if(symbol.fun.is_none()),
-            Node::Loc(loc) => self.empty_if(symbol.fun.is_none() && loc == symbol.loc),
-            Node::Fun(fun) => self.empty_if(symbol.fun == Some(fun)),
-            Node::Cat(first, rest) => {
+            FormNode::Nothing | FormNode::Empty => self.put(FormNode::Nothing),
+            FormNode::Dot => self.empty_if(symbol.fun.is_none()),
+            FormNode::Loc(loc) => self.empty_if(symbol.fun.is_none() && loc == symbol.loc),
+            FormNode::Fun(fun) => self.empty_if(symbol.fun == Some(fun)),
+            FormNode::Cat(first, rest) => {
                 let after = self.derivative(first, symbol)?;
                 let way = self.cat_of(after, rest)?;
                 if !self.takes_empty(first) {
@@ -67,20 +74,20 @@ impl Forms {
                 let other = self.derivative(rest, symbol)?;
                 self.either(way, other)
             }
-            Node::Alt(_, _) => {
+            FormNode::Alt(_, _) => {
                 let all = self.derivatives(form, symbol)?;
                 Ok(self.one_of(all))
             }
-            Node::Star(inner) => {
+            FormNode::Star(inner) => {
                 let after = self.derivative(inner, symbol)?;
                 self.cat_of(after, form)
             }
-            Node::Not(inner) => match symbol.fun {
+            FormNode::Not(inner) => match symbol.fun {
                 None => {
                     let after = self.derivative(inner, symbol)?;
                     self.not_of(after)
                 }
-                Some(_) => self.put(Node::Nothing),
+                Some(_) => self.put(FormNode::Nothing),
             },
         }
     }
@@ -90,10 +97,12 @@ impl Forms {
     fn derivatives(&mut self, all: usize, symbol: Symbol) -> Result<usize, OutOfMemory>
         requires within { all < length self.old }
         requires chain { IsChain (form_at self.old all) }
-        ensures grows { Grows self.old self.new }
-        ensures value { IfOk result (λ rest. Names self.new rest (alt_by (ascending (flat_map members (map (λ a. derivative_of a symbol) (members (form_at self.old all))))))) }
+        ensures grows { AddsForms self.old self.new }
+        ensures value { IfOk result (λ rest.
+            IsFormAt self.new rest (alt_by (in_order_of (flat_map members
+            (map (λ a. derivative_of a symbol) (members (form_at self.old all))))))) }
     {
-        let Node::Alt(first, rest) = self.node(all) else {
+        let FormNode::Alt(first, rest) = self.node(all) else {
             return Ok(all);
         };
         let others = self.derivatives(rest, symbol)?;

@@ -10,7 +10,7 @@ use Rattle.merlin_model.specs.declared.policy.Path.TheBlock.{hidden-the_row-Path
 use denote.Hole.Carrier.{hidden}
 use Rattle.path_regex.specs.Parts.{listed, Alt-listed}
 use Rattle.path_regex.specs.Order.{order}
-use Rattle.path_regex.specs.Normal.{before, cat_of, members, added, added_all, one_of, alt_of, star_of, not_of, normal_of, normals}
+use Rattle.path_regex.specs.Normal.{grouped_cat, cat_of, members, added, added_all, one_of, alt_of, star_of, not_of, normal_of, normals}
 use Rattle.path_regex.specs.Derivatives.{takes_empty, empty_if, has_no_function, is_function, not_if, with_next, derivative_of, derivatives}
 
 -- What holds of paths exactly where it holds of their parts.
@@ -46,18 +46,18 @@ added_all-all Q [] others h g = g
 added_all-all Q (a ∷ paths) others h g = added-all Q a (added_all paths others) h.0 (added_all-all Q paths others h.1 g)
 
 module _ (Q : Path → Type 0) (q : IsOfParts Q) where
-  before-kept : (a b : Path) → Q a → Q b → Q (before a b)
+  grouped_cat-kept : (a b : Path) → Q a → Q b → Q (grouped_cat a b)
   unfolding hidden-the_row-Path-1 hidden
-  before-kept Nothing b qa qb = q.nothing
-  before-kept Empty b qa qb = qb
-  before-kept (Cat' s (more_of-Path a end_of-Path) t (more_of-Path c end_of-Path)) b qa qb =
-      let parts = q.uncat a c qa in q.cat a (before c b) parts.0 (before-kept c b parts.1 qb)
-  before-kept a b qa qb = q.cat a b qa qb
+  grouped_cat-kept Nothing b qa qb = q.nothing
+  grouped_cat-kept Empty b qa qb = qb
+  grouped_cat-kept (Cat' s (more_of-Path a end_of-Path) t (more_of-Path c end_of-Path)) b qa qb =
+      let parts = q.uncat a c qa in q.cat a (grouped_cat c b) parts.0 (grouped_cat-kept c b parts.1 qb)
+  grouped_cat-kept a b qa qb = q.cat a b qa qb
 
   cat_of-kept : (a b : Path) → Q a → Q b → Q (cat_of a b)
   cat_of-kept a Nothing qa qb = q.nothing
   cat_of-kept a Empty qa qb = qa
-  cat_of-kept a b qa qb = before-kept a b qa qb
+  cat_of-kept a b qa qb = grouped_cat-kept a b qa qb
 
   members-kept : (a : Path) → Q a → AllByRecursion Q (members a)
   members-kept Nothing qa = tt

@@ -8,10 +8,10 @@ use Rattle.merlin_model.specs.declared.policy.Symbol.{Symbol}
 use Rattle.merlin_model.specs.declared.policy.Path.{Path, Nothing, Empty, Cat', Alt', Star', Row_of-Path, end_of-Path, more_of-Path}
 use Rattle.merlin_model.specs.declared.policy.Path.TheBlock.{hidden-the_row-Path-1}
 use denote.Hole.Carrier.{hidden}
-use Rattle.merlin_model.specs.Paths.{InLanguage, InSomeLanguage, InSome, joined, Cat-is, Star-is, Alt-is}
+use Rattle.merlin_model.specs.Paths.{InLanguage, InSomeLanguage, InSome, concatenation, Cat-is, Star-is, Alt-is}
 use Rattle.path_regex.specs.Parts.{listed}
 use Rattle.path_regex.specs.Order.{order}
-use Rattle.path_regex.specs.Normal.{before, cat_of, members, added, added_all, one_of, alt_of, star_of}
+use Rattle.path_regex.specs.Normal.{grouped_cat, cat_of, members, added, added_all, one_of, alt_of, star_of}
 use Rattle.path_regex.proofs.Ordered.{same}
 
 -- Both ways.
@@ -69,22 +69,22 @@ Joins a b w = (u : List Symbol) × (v : List Symbol) × (w ≡ u ++ v) × InLang
 
 -- Juxtaposition.
 
-before-takes : (a b : Path) (w : List Symbol) → InLanguage (before a b) w ↔ Joins a b w
+grouped_cat-takes : (a b : Path) (w : List Symbol) → InLanguage (grouped_cat a b) w ↔ Joins a b w
 unfolding hidden-the_row-Path-1 hidden
-before-takes Nothing b w = (λ h. absurd h, λ h. absurd h.3)
-before-takes Empty b w = (λ h. ([], w, refl, refl, h), λ h. subst (InLanguage b) (sym (h.2 ∙ ap (λ u. u ++ h.1) h.3)) h.4)
-before-takes (Cat' s (more_of-Path a end_of-Path) t (more_of-Path c end_of-Path)) b w = (
-  λ h. let rest : Joins c b h.1 = (before-takes c b h.1).0 h.4 in
+grouped_cat-takes Nothing b w = (λ h. absurd h, λ h. absurd h.3)
+grouped_cat-takes Empty b w = (λ h. ([], w, refl, refl, h), λ h. subst (InLanguage b) (sym (h.2 ∙ ap (λ u. u ++ h.1) h.3)) h.4)
+grouped_cat-takes (Cat' s (more_of-Path a end_of-Path) t (more_of-Path c end_of-Path)) b w = (
+  λ h. let rest : Joins c b h.1 = (grouped_cat-takes c b h.1).0 h.4 in
       (h.0 ++ rest.0, rest.1, h.2 ∙ ap (λ v. h.0 ++ v) rest.2 ∙ sym (append_assoc h.0 rest.0 rest.1), (h.0, rest.0, refl, h.3, rest.3), rest.4),
   λ h. let first = h.3 in
-      (first.0, first.1 ++ h.1, h.2 ∙ ap (λ u. u ++ h.1) first.2 ∙ append_assoc first.0 first.1 h.1, first.3, (before-takes c b (first.1 ++ h.1)).1 (first.1, h.1, refl, first.4, h.4)),
+      (first.0, first.1 ++ h.1, h.2 ∙ ap (λ u. u ++ h.1) first.2 ∙ append_assoc first.0 first.1 h.1, first.3, (grouped_cat-takes c b (first.1 ++ h.1)).1 (first.1, h.1, refl, first.4, h.4)),
 )
-before-takes a b w = by_equality (Cat-is a b w)
+grouped_cat-takes a b w = by_equality (Cat-is a b w)
 
 pub cat_of-takes : (a b : Path) (w : List Symbol) → InLanguage (cat_of a b) w ↔ Joins a b w
 cat_of-takes a Nothing w = (λ h. absurd h, λ h. absurd h.4)
 cat_of-takes a Empty w = (λ h. (w, [], sym (append-nil w), h, refl), λ h. subst (InLanguage a) (sym (h.2 ∙ ap (λ v. h.0 ++ v) h.4 ∙ append-nil h.0)) h.3)
-cat_of-takes a b w = before-takes a b w
+cat_of-takes a b w = grouped_cat-takes a b w
 
 pub Joins-alike : (a b c d : Path) → Alike a c → Alike b d → (w : List Symbol) → Joins a b w ↔ Joins c d w
 Joins-alike a b c d f g w = (λ h. (h.0, h.1, h.2, (f h.0).0 h.3, (g h.1).0 h.4), λ h. (h.0, h.1, h.2, (f h.0).1 h.3, (g h.1).1 h.4))
@@ -156,30 +156,30 @@ alt_of-takes paths w =
 
 -- Repetition.
 
-joined-append : (us vs : List (List Symbol)) → joined (us ++ vs) ≡ joined us ++ joined vs
+joined-append : (us vs : List (List Symbol)) → concatenation (us ++ vs) ≡ concatenation us ++ concatenation vs
 joined-append [] vs = refl
-joined-append (u ∷ us) vs = ap (λ w. u ++ w) (joined-append us vs) ∙ sym (append_assoc u (joined us) (joined vs))
+joined-append (u ∷ us) vs = ap (λ w. u ++ w) (joined-append us vs) ∙ sym (append_assoc u (concatenation us) (concatenation vs))
 
 abbrev pub InStar : Path → List Symbol → Type 0
-InStar a w = (parts : List (List Symbol)) × (w ≡ joined parts) × AllByRecursion (InLanguage a) parts
+InStar a w = (parts : List (List Symbol)) × (w ≡ concatenation parts) × AllByRecursion (InLanguage a) parts
 
 all-append : (P : List Symbol → Type 0) (us vs : List (List Symbol)) → AllByRecursion P us → AllByRecursion P vs → AllByRecursion P (us ++ vs)
 all-append P [] vs h g = g
 all-append P (u ∷ us) vs h g = (h.0, all-append P us vs h.1 g)
 
 -- repeated repetitions are one
-star-again : (a : Path) (parts : List (List Symbol)) → AllByRecursion (InStar a) parts → InStar a (joined parts)
+star-again : (a : Path) (parts : List (List Symbol)) → AllByRecursion (InStar a) parts → InStar a (concatenation parts)
 star-again a [] h = ([], refl, tt)
 star-again a (u ∷ parts) h =
-    let rest : InStar a (joined parts) = star-again a parts h.1 in
+    let rest : InStar a (concatenation parts) = star-again a parts h.1 in
     let first : InStar a u = h.0 in
     (first.0 ++ rest.0, ap₂ (λ v w. v ++ w) first.1 rest.1 ∙ sym (joined-append first.0 rest.0), all-append (InLanguage a) first.0 rest.0 first.2 rest.2)
 
-only-empty : (parts : List (List Symbol)) → AllByRecursion (λ u. u ≡ []) parts → joined parts ≡ []
+only-empty : (parts : List (List Symbol)) → AllByRecursion (λ u. u ≡ []) parts → concatenation parts ≡ []
 only-empty [] h = refl
 only-empty (u ∷ parts) h = ap₂ (λ v w. v ++ w) h.0 (only-empty parts h.1)
 
-none : (parts : List (List Symbol)) → AllByRecursion (λ u. ⊥) parts → joined parts ≡ []
+none : (parts : List (List Symbol)) → AllByRecursion (λ u. ⊥) parts → concatenation parts ≡ []
 none [] h = refl
 none (u ∷ parts) h = absurd h.0
 

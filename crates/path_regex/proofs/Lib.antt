@@ -6,4 +6,5 @@ pub mod Kept
 pub mod Functionless
 pub mod Meanings
 pub mod Normality
+pub mod Ascending
 pub mod Results

@@ -3,7 +3,7 @@ use Rattle.std.proofs.Common.{◌⊎◌, inl, inr, ◌↔◌, Bool, true, false,
 use Rattle.std.specs.List.{AllByRecursion}
 use Rattle.merlin_model.specs.declared.policy.Symbol.{Symbol}
 use Rattle.merlin_model.specs.declared.policy.Path.{Path, Nothing, Empty, Dot, Loc, Fun, Cat, Cat', Alt', Star, Star', Not', Row_of-Path, end_of-Path, more_of-Path}
-use Rattle.merlin_model.specs.Paths.{InLanguage, InSomeLanguage, InSome, joined, HasNoFunction, Cat-is, Not-is, Alt-is}
+use Rattle.merlin_model.specs.Paths.{InLanguage, InSomeLanguage, InSome, concatenation, HasNoFunction, Cat-is, Not-is, Alt-is}
 use Rattle.path_regex.specs.Normal.{cat_of, not_of, normal_of, normals}
 use Rattle.path_regex.specs.Derivatives.{takes_empty, has_no_function, not_if, with_next, derivative_of, derivatives}
 use Rattle.path_regex.specs.Functions.{HasNoFun, EachHasNoFun, HasNoFunctionUnderNot, EachHasNoFunctionUnderNot}
@@ -33,9 +33,9 @@ mutual
       all-words P f [] g = tt
       all-words P f (u ∷ parts) g = (f u g.0, all-words P f parts g.1)
 
-      all-joined : (parts : List (List Symbol)) → AllByRecursion IsPlain parts → IsPlain (joined parts)
+      all-joined : (parts : List (List Symbol)) → AllByRecursion IsPlain parts → IsPlain (concatenation parts)
       all-joined [] g = tt
-      all-joined (u ∷ parts) g = all-append HasNoFunction u (joined parts) g.0 (all-joined parts g.1)
+      all-joined (u ∷ parts) g = all-append HasNoFunction u (concatenation parts) g.0 (all-joined parts g.1)
   plain-words (Not' s (more_of-Path a end_of-Path)) n w h = h.0
 
   some-plain : {n : _} → (row : Row_of-Path n) → EachHasNoFun row → (w : List Symbol) → InSomeLanguage row w → IsPlain w

@@ -11,8 +11,8 @@ use Rattle.merlin_model.specs.declared.policy.Path.{Path, Nothing, Empty, Dot, L
 use Rattle.merlin_model.specs.declared.policy.Path.TheBlock.{hidden-the_row-Path-0, hidden-the_row-Path-1}
 use denote.Hole.Carrier.{hidden}
 use Rattle.path_regex.specs.Parts.{listed, Alt-listed}
-use Rattle.path_regex.specs.Order.{spelled, order}
-use Rattle.path_regex.specs.Normal.{before, cat_of, members, added, added_all, one_of, alt_of, star_of, not_of, normal_of, normals, IsNormalForm}
+use Rattle.path_regex.specs.Order.{spelled, order, AscendStrictly}
+use Rattle.path_regex.specs.Normal.{grouped_cat, cat_of, members, added, added_all, one_of, alt_of, star_of, not_of, normal_of, normals, IsNormalForm}
 use Rattle.path_regex.specs.Derivatives.{takes_empty, empty_if, has_no_function, not_if, with_next, derivative_of, derivatives}
 use Rattle.path_regex.proofs.Shapes.{members-Alt}
 use Rattle.path_regex.proofs.Kept.{all-append, added_all-all}
@@ -45,14 +45,9 @@ abbrev IsNegated : Path → Type 0
 IsNegated (Not' _ _) = ⊥
 IsNegated _ = ⊤
 
-abbrev pub IsAscending : List Path → Type 0
-IsAscending [] = ⊤
-IsAscending (a ∷ []) = ⊤
-IsAscending (a ∷ b ∷ rest) = (order a b ≡ Less) × IsAscending (b ∷ rest)
-
 -- the members of an Alt
 abbrev AreMembers : List Path → Type 0
-AreMembers paths = AllByRecursion IsMember paths × IsAscending paths × (2 ≤ length paths)
+AreMembers paths = AllByRecursion IsMember paths × AscendStrictly paths × (2 ≤ length paths)
 
 abbrev mutual
   pub IsNormal : Path → Type 0
@@ -83,62 +78,78 @@ normal-Alt : (paths : List Path) → AllByRecursion IsNormal paths → AreMember
 unfolding hidden-the_row-Path-0 hidden-the_row-Path-1 hidden
 normal-Alt paths h m = (each-Alt paths h, subst AreMembers (sym (members-Alt paths)) m)
 
+abbrev InAscent : Path → Type 0
+InAscent (Alt' _ row) = AscendStrictly (listed row)
+InAscent _ = ⊤
+
+in-ascent : (path : Path) → IsNormal path → InAscent path
+in-ascent (Alt' s row) n = n.1.1
+in-ascent path n = tt
+
+ascent-Alt : (paths : List Path) → InAscent (Alt paths) → AscendStrictly paths
+unfolding hidden-the_row-Path-0 hidden-the_row-Path-1 hidden
+ascent-Alt paths h = subst AscendStrictly (members-Alt paths) h
+
+-- the members of a normal Alt ascend
+pub members-ascend : (paths : List Path) → IsNormal (Alt paths) → AscendStrictly paths
+members-ascend paths n = ascent-Alt paths (in-ascent (Alt paths) n)
+
 -- Juxtaposition.
 
-before-tail : (a b : Path) → IsTail a → IsTail (before a b)
+grouped_cat-tail : (a b : Path) → IsTail a → IsTail (grouped_cat a b)
 unfolding hidden-the_row-Path-1 hidden
-before-tail Nothing b t = absurd t
-before-tail Empty b t = absurd t
-before-tail (Cat' s (more_of-Path a end_of-Path) u (more_of-Path c end_of-Path)) b t = tt
-before-tail a b t = tt
+grouped_cat-tail Nothing b t = absurd t
+grouped_cat-tail Empty b t = absurd t
+grouped_cat-tail (Cat' s (more_of-Path a end_of-Path) u (more_of-Path c end_of-Path)) b t = tt
+grouped_cat-tail a b t = tt
 
-before-normal : (a b : Path) → IsNormal a → IsNormal b → IsTail b → IsNormal (before a b)
+grouped_cat-normal : (a b : Path) → IsNormal a → IsNormal b → IsTail b → IsNormal (grouped_cat a b)
 unfolding hidden-the_row-Path-1 hidden
-before-normal Nothing b na nb t = tt
-before-normal Empty b na nb t = nb
-before-normal (Cat' s (more_of-Path a end_of-Path) u (more_of-Path c end_of-Path)) b na nb t = (na.0, before-normal c b na.1 nb t, na.2, before-tail c b na.3)
-before-normal a b na nb t = (na, nb, tt, t)
+grouped_cat-normal Nothing b na nb t = tt
+grouped_cat-normal Empty b na nb t = nb
+grouped_cat-normal (Cat' s (more_of-Path a end_of-Path) u (more_of-Path c end_of-Path)) b na nb t = (na.0, grouped_cat-normal c b na.1 nb t, na.2, grouped_cat-tail c b na.3)
+grouped_cat-normal a b na nb t = (na, nb, tt, t)
 
 cat_of-normal : (a b : Path) → IsNormal a → IsNormal b → IsNormal (cat_of a b)
 cat_of-normal a Nothing na nb = tt
 cat_of-normal a Empty na nb = na
-cat_of-normal a b na nb = before-normal a b na nb tt
+cat_of-normal a b na nb = grouped_cat-normal a b na nb tt
 
-before-own : (a b : Path) → IsHead a → before a b ≡ Cat a b
-before-own Nothing b h = absurd h
-before-own Empty b h = absurd h
-before-own (Cat' s x t y) b h = absurd h
-before-own a b h = refl
+grouped_cat-own : (a b : Path) → IsHead a → grouped_cat a b ≡ Cat a b
+grouped_cat-own Nothing b h = absurd h
+grouped_cat-own Empty b h = absurd h
+grouped_cat-own (Cat' s x t y) b h = absurd h
+grouped_cat-own a b h = refl
 
 cat_of-own : (a b : Path) → IsHead a → IsTail b → cat_of a b ≡ Cat a b
 cat_of-own a Nothing h t = absurd t
 cat_of-own a Empty h t = absurd t
-cat_of-own a b h t = before-own a b h
+cat_of-own a b h t = grouped_cat-own a b h
 
 -- Alternatives.
 
 turned : (a b : Path) → order a b ≡ Greater → order b a ≡ Less
 turned a b e = nat_list_cmp_total.antisymm (spelled b) (spelled a) ∙ ap ordering_reverse e
 
-under : (b a : Path) (rest : List Path) → order b a ≡ Less → IsAscending (b ∷ rest) → IsAscending (b ∷ added a rest)
+under : (b a : Path) (rest : List Path) → order b a ≡ Less → AscendStrictly (b ∷ rest) → AscendStrictly (b ∷ added a rest)
 under b a [] lt h = (lt, tt)
 under b a (c ∷ rest) lt h = by (order a c) refl (λ l. under c a rest l h.1)
   where
-    by : (o : Ordering) → order a c ≡ o → (order c a ≡ Less → IsAscending (c ∷ added a rest)) → IsAscending (b ∷ match_ordering o (a ∷ c ∷ rest) (c ∷ rest) (c ∷ added a rest))
+    by : (o : Ordering) → order a c ≡ o → (order c a ≡ Less → AscendStrictly (c ∷ added a rest)) → AscendStrictly (b ∷ match_ordering o (a ∷ c ∷ rest) (c ∷ rest) (c ∷ added a rest))
     by Less e ih = (lt, (e, h.1))
     by Equal e ih = h
     by Greater e ih = (h.0, ih (turned a c e))
 
-added-ascending : (a : Path) (paths : List Path) → IsAscending paths → IsAscending (added a paths)
+added-ascending : (a : Path) (paths : List Path) → AscendStrictly paths → AscendStrictly (added a paths)
 added-ascending a [] h = tt
 added-ascending a (b ∷ rest) h = by (order a b) refl
   where
-    by : (o : Ordering) → order a b ≡ o → IsAscending (match_ordering o (a ∷ b ∷ rest) (b ∷ rest) (b ∷ added a rest))
+    by : (o : Ordering) → order a b ≡ o → AscendStrictly (match_ordering o (a ∷ b ∷ rest) (b ∷ rest) (b ∷ added a rest))
     by Less e = (e, h)
     by Equal e = h
     by Greater e = under b a rest (turned a b e) h
 
-added_all-ascending : (paths others : List Path) → IsAscending others → IsAscending (added_all paths others)
+pub added_all-ascending : (paths others : List Path) → AscendStrictly others → AscendStrictly (added_all paths others)
 added_all-ascending [] others h = h
 added_all-ascending (a ∷ paths) others h = added-ascending a (added_all paths others) (added_all-ascending paths others h)
 
@@ -162,7 +173,7 @@ all-members-normal : (paths : List Path) → AllByRecursion IsNormal paths → A
 all-members-normal [] h = tt
 all-members-normal (a ∷ paths) h = all-append IsNormalMember (members a) (flat_map members paths) (members-normal a h.0) (all-members-normal paths h.1)
 
-one_of-normal : (paths : List Path) → AllByRecursion IsNormalMember paths → IsAscending paths → IsNormal (one_of paths)
+one_of-normal : (paths : List Path) → AllByRecursion IsNormalMember paths → AscendStrictly paths → IsNormal (one_of paths)
 one_of-normal [] h asc = tt
 one_of-normal (a ∷ []) h asc = h.0.0
 one_of-normal (a ∷ b ∷ rest) h asc =
@@ -175,15 +186,15 @@ alt_of-normal paths h =
     (added_all-all IsNormalMember (flat_map members paths) [] (all-members-normal paths h) tt)
     (added_all-ascending (flat_map members paths) [] tt)
 
-added-own : (a : Path) (rest : List Path) → IsAscending (a ∷ rest) → added a rest ≡ a ∷ rest
+added-own : (a : Path) (rest : List Path) → AscendStrictly (a ∷ rest) → added a rest ≡ a ∷ rest
 added-own a [] h = refl
 added-own a (b ∷ rest) h = ap (λ o. match_ordering o (a ∷ b ∷ rest) (b ∷ rest) (b ∷ added a rest)) h.0
 
-rest-ascending : (a : Path) (rest : List Path) → IsAscending (a ∷ rest) → IsAscending rest
+rest-ascending : (a : Path) (rest : List Path) → AscendStrictly (a ∷ rest) → AscendStrictly rest
 rest-ascending a [] h = tt
 rest-ascending a (b ∷ rest) h = h.1
 
-added_all-own : (paths : List Path) → IsAscending paths → added_all paths [] ≡ paths
+added_all-own : (paths : List Path) → AscendStrictly paths → added_all paths [] ≡ paths
 added_all-own [] h = refl
 added_all-own (a ∷ rest) h = ap (added a) (added_all-own rest (rest-ascending a rest h)) ∙ added-own a rest h
 

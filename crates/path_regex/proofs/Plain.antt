@@ -5,7 +5,7 @@ use Rattle.std.specs.List.{AllByRecursion}
 use Rattle.merlin_model.specs.declared.policy.Symbol.{Symbol}
 use Rattle.merlin_model.specs.declared.policy.Path.{Path, Nothing, Empty, Dot, Loc, Fun, Cat, Cat', Alt, Alt', Star, Star', Not, Not', Row_of-Path, end_of-Path, more_of-Path}
 use Rattle.merlin_model.specs.Words.{at}
-use Rattle.merlin_model.specs.Paths.{InLanguage, InSomeLanguage, InSome, joined, HasNoFunction, Cat-is, Star-is, Not-is, Alt-is}
+use Rattle.merlin_model.specs.Paths.{InLanguage, InSomeLanguage, InSome, concatenation, HasNoFunction, Cat-is, Star-is, Not-is, Alt-is}
 use Rattle.path_regex.specs.Derivatives.{takes_empty, some_take_empty, empty_if, has_no_function, is_function}
 
 -- The derivative, put together from its parts as they come.
@@ -166,7 +166,7 @@ Cat-quotient a b qa qb x w = (λ h. to ((with_next-is (takes_empty a) (Cat (plai
         inl (subst (λ T. T) (sym (Cat-is (plain a x) b w)) (u, v, cons-tail e, (qa x u).1 (subst (λ z. InLanguage a (z ∷ u)) (sym (cons-head e)) ha), hb))
 
 abbrev InStar : Path → List Symbol → Type 0
-InStar a w = (parts : List (List Symbol)) × (w ≡ joined parts) × AllByRecursion (InLanguage a) parts
+InStar a w = (parts : List (List Symbol)) × (w ≡ concatenation parts) × AllByRecursion (InLanguage a) parts
 
 Star-quotient : (a : Path) → Quotient a → (x : Symbol) (w : List Symbol) → InLanguage (Cat (plain a x) (Star a)) w ↔ InStar a (x ∷ w)
 Star-quotient a qa x w = (λ h. to (subst (λ T. T) (Cat-is (plain a x) (Star a) w) h), λ h. subst (λ T. T) (sym (Cat-is (plain a x) (Star a) w)) (from h.0 h.1 h.2))
@@ -177,12 +177,12 @@ Star-quotient a qa x w = (λ h. to (subst (λ T. T) (Cat-is (plain a x) (Star a)
         ((x ∷ h.0) ∷ s.0, ap (λ l. x ∷ l) (h.2 ∙ ap (λ l. h.0 ++ l) s.1), ((qa x h.0).0 h.3, s.2))
 
     -- empty parts in front are passed over
-    from : (parts : List (List Symbol)) → x ∷ w ≡ joined parts → AllByRecursion (InLanguage a) parts →
+    from : (parts : List (List Symbol)) → x ∷ w ≡ concatenation parts → AllByRecursion (InLanguage a) parts →
         (u : List Symbol) × (v : List Symbol) × (w ≡ u ++ v) × InLanguage (plain a x) u × InLanguage (Star a) v
     from [] e all = absurd (cons-nil e)
     from ([] ∷ parts) e all = from parts e all.1
     from ((y ∷ u) ∷ parts) e all =
-        (u, joined parts, cons-tail e, (qa x u).1 (subst (λ z. InLanguage a (z ∷ u)) (sym (cons-head e)) all.0), subst (λ T. T) (sym (Star-is a (joined parts))) (parts, refl, all.1))
+        (u, concatenation parts, cons-tail e, (qa x u).1 (subst (λ z. InLanguage a (z ∷ u)) (sym (cons-head e)) all.0), subst (λ T. T) (sym (Star-is a (concatenation parts))) (parts, refl, all.1))
 
 Not-quotient : (a : Path) → Quotient a → (x : Symbol) (w : List Symbol) →
     InLanguage (not_if (has_no_function x.fun) (plain a x)) w ↔ (((x.fun ≡ None) × AllByRecursion HasNoFunction w) × (¬ InLanguage a (x ∷ w)))

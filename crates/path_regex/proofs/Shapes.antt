@@ -6,12 +6,12 @@ use Rattle.merlin_model.specs.declared.policy.Path.{Path, Nothing, Empty, Cat, C
 use Rattle.merlin_model.specs.declared.policy.Path.TheBlock.{hidden-the_row-Path-0, hidden-the_row-Path-1}
 use denote.Hole.Carrier.{hidden}
 use Rattle.path_regex.specs.Parts.{listed, Alt-listed}
-use Rattle.path_regex.specs.Normal.{before, cat_of, members, added, added_all, alt_of, star_of, not_of, normal_of, normals}
+use Rattle.path_regex.specs.Normal.{grouped_cat, cat_of, members, added, added_all, alt_of, star_of, not_of, normal_of, normals}
 use Rattle.path_regex.specs.Derivatives.{takes_empty, with_next, not_if, has_no_function, derivative_of, derivatives}
 
-pub before-Cat : (a c b : Path) → before (Cat a c) b ≡ Cat a (before c b)
+pub grouped_cat-Cat : (a c b : Path) → grouped_cat (Cat a c) b ≡ Cat a (grouped_cat c b)
 unfolding hidden-the_row-Path-1 hidden
-before-Cat a c b = refl
+grouped_cat-Cat a c b = refl
 
 pub star_of-Star : (a : Path) → star_of (Star a) ≡ Star a
 unfolding hidden-the_row-Path-1 hidden
@@ -28,14 +28,14 @@ members-Alt (a ∷ paths) = ap (λ l. a ∷ l) (members-Alt paths)
 
 -- What the other variants give.
 
-pub before-other : (a b : Path) → (a ≡ Nothing → ⊥) → (a ≡ Empty → ⊥) → ((c d : Path) → a ≡ Cat c d → ⊥) → before a b ≡ Cat a b
+pub before-other : (a b : Path) → (a ≡ Nothing → ⊥) → (a ≡ Empty → ⊥) → ((c d : Path) → a ≡ Cat c d → ⊥) → grouped_cat a b ≡ Cat a b
 unfolding hidden-the_row-Path-1 hidden
 before-other Nothing b n e h = absurd (n refl)
 before-other Empty b n e h = absurd (e refl)
 before-other (Cat' s (more_of-Path c end_of-Path) t (more_of-Path d end_of-Path)) b n e h = absurd (h c d refl)
 before-other a b n e h = refl
 
-pub cat_of-other : (a b : Path) → (b ≡ Nothing → ⊥) → (b ≡ Empty → ⊥) → cat_of a b ≡ before a b
+pub cat_of-other : (a b : Path) → (b ≡ Nothing → ⊥) → (b ≡ Empty → ⊥) → cat_of a b ≡ grouped_cat a b
 cat_of-other a Nothing n e = absurd (n refl)
 cat_of-other a Empty n e = absurd (e refl)
 cat_of-other a b n e = refl

@@ -3,3 +3,5 @@ pub mod Order
 pub mod Normal
 pub mod Derivatives
 pub mod Functions
+pub mod Languages
+pub mod States

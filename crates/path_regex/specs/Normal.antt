@@ -1,23 +1,23 @@
 -- The normal form of a path.
-use Rattle.std.specs.Prelude.{◌≡◌, List, [], ◌∷◌}
-use Rattle.std.specs.List.{flat_map}
+use Rattle.std.specs.Prelude.{ℕ, ◌≡◌, ◌≤◌, List, [], ◌∷◌, length, Option, None, Some}
+use Rattle.std.specs.List.{flat_map, insert}
 use Rattle.std.specs.Ordering.{match_ordering}
 use Rattle.merlin_model.specs.declared.policy.Path.{Path, Nothing, Empty, Dot, Loc, Fun, Cat, Cat', Alt, Alt', Star, Star', Not, Not', Row_of-Path, end_of-Path, more_of-Path}
 use Rattle.path_regex.specs.Parts.{listed}
 use Rattle.path_regex.specs.Order.{order}
 
 -- a path followed by one that is neither Nothing nor Empty: a Cat on the left is grouped to the right
-abbrev pub before : Path → Path → Path
-before Nothing b = Nothing
-before Empty b = b
-before (Cat' _ (more_of-Path a end_of-Path) _ (more_of-Path c end_of-Path)) b = Cat a (before c b)
-before a b = Cat a b
+abbrev pub grouped_cat : Path → Path → Path
+grouped_cat Nothing b = Nothing
+grouped_cat Empty b = b
+grouped_cat (Cat' _ (more_of-Path a end_of-Path) _ (more_of-Path c end_of-Path)) b = Cat a (grouped_cat c b)
+grouped_cat a b = Cat a b
 
 -- a path followed by another
 abbrev pub cat_of : Path → Path → Path
 cat_of a Nothing = Nothing
 cat_of a Empty = a
-cat_of a b = before a b
+cat_of a b = grouped_cat a b
 
 -- what a path adds to an Alt: nothing, the members of an Alt, or itself
 abbrev pub members : Path → List Path
@@ -30,14 +30,19 @@ abbrev pub added : Path → List Path → List Path
 added a [] = a ∷ []
 added a (b ∷ rest) = match_ordering (order a b) (a ∷ b ∷ rest) (b ∷ rest) (b ∷ added a rest)
 
+-- where a path is to be put among others in order: at a place, or nowhere, since it is there
+abbrev pub IsPlaceFor : Path → List Path → Option ℕ → Type 0
+IsPlaceFor a others None = added a others ≡ others
+IsPlaceFor a others (Some at) = (at ≤ length others) × (added a others ≡ insert others at a)
+
 -- paths put in their places among others in order
 abbrev pub added_all : List Path → List Path → List Path
 added_all [] others = others
 added_all (a ∷ rest) others = added a (added_all rest others)
 
 -- paths put in order, each once
-abbrev pub ascending : List Path → List Path
-ascending paths = added_all paths []
+abbrev pub in_order_of : List Path → List Path
+in_order_of paths = added_all paths []
 
 -- any one of the paths
 abbrev pub one_of : List Path → Path
@@ -47,7 +52,7 @@ one_of (a ∷ b ∷ rest) = Alt (a ∷ b ∷ rest)
 
 -- any one of the paths, of which an Alt stands for its members
 abbrev pub alt_of : List Path → Path
-alt_of paths = one_of (ascending (flat_map members paths))
+alt_of paths = one_of (in_order_of (flat_map members paths))
 
 abbrev pub star_of : Path → Path
 star_of Nothing = Empty

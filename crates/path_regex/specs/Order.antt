@@ -1,7 +1,8 @@
 -- The order of paths.
-use Rattle.std.specs.Prelude.{ℕ, List, [], ◌∷◌, ◌++◌}
+use Rattle.std.specs.Prelude.{ℕ, ◌≡◌, ⊤, List, [], ◌∷◌, ◌++◌}
 use Rattle.std.specs.Ordering.{nat_cmp}
 use Rattle.std.specs.declared.cmp.Ordering.{Ordering}
+use Rattle.std.specs.declared.cmp.Ordering.TheVariants.{Less}
 use Rattle.std.specs.Cmp.Lexicographic.{slice_cmp}
 use Rattle.merlin_model.specs.declared.policy.Path.{Path, Nothing, Empty, Dot, Loc, Fun, Cat', Alt', Star', Not', Row_of-Path, end_of-Path, more_of-Path}
 
@@ -37,3 +38,9 @@ abbrev mutual
 -- Paths are ordered as they are spelled, number by number: by their variants, and paths of one variant by their parts.
 abbrev pub order : Path → Path → Ordering
 order a b = slice_cmp nat_cmp (spelled a) (spelled b)
+
+-- each path of the list stands before the next one
+abbrev pub AscendStrictly : List Path → Type 0
+AscendStrictly [] = ⊤
+AscendStrictly (a ∷ []) = ⊤
+AscendStrictly (a ∷ b ∷ rest) = (order a b ≡ Less) × AscendStrictly (b ∷ rest)

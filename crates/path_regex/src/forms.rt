@@ -1,8 +1,10 @@
-//! Normal forms, derivatives and the empty word, by the parts of a path.
+//! Normal forms, derivatives and the empty word, by the parts of a path: Brzozowski's derivatives of
+//! regular expressions (1964), each put into normal form at once.
 
 ghost use Rattle.std.specs.Prelude.{◌≡◌, IfOk, map};
 ghost use Rattle.path_regex.specs.Normal.{cat_of as cat, normal_of};
-ghost use Rattle.path_regex.specs.Derivatives.{takes_empty as takes, empty_if as when, derivative_of};
+ghost use Rattle.path_regex.specs.Derivatives.{takes_empty as takes, empty_if as when};
+ghost use Rattle.path_regex.specs.Derivatives.{derivative_of};
 
 use crate::copies::copy;
 use crate::parts::{alt_of, cat_of, not_of, star_of};

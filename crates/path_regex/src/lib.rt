@@ -1,15 +1,16 @@
 //! Path expressions: their normal forms, their derivatives, and the empty word.
 #![tactic(auto)]
 
-ghost use Rattle.std.specs.Prelude.{◌≡◌, ◌↔◌, List, [], ◌∷◌, IfOk, IsTrue};
-ghost use Rattle.merlin_model.specs.declared.policy.Symbol.{Symbol};
+ghost use Rattle.std.specs.Prelude.{◌≡◌, ◌↔◌, [], IfOk, IsTrue};
 ghost use Rattle.merlin_model.specs.Paths.{InLanguage};
 ghost use Rattle.path_regex.specs.Normal.{normal_of, IsNormalForm};
 ghost use Rattle.path_regex.specs.Derivatives.{takes_empty, derivative_of};
 ghost use Rattle.path_regex.specs.Functions.{HasNoFunctionUnderNot};
+ghost use Rattle.path_regex.specs.Languages.{TakesSameWords, IsQuotient};
 
 pub mod copies;
 mod forms;
+pub mod laws;
 pub mod order;
 mod parts;
 
@@ -17,13 +18,13 @@ pub use merlin_model::OutOfMemory;
 pub use merlin_model::policy::{Path, Symbol};
 use std::alloc::Global;
 
-/// The normal form of the path. It is its own normal form, and it takes the words that the path takes
-/// where no function stands under a Not.
+/// The normal form of the path. It is its own normal form, and it takes the words that the path
+/// takes where no function stands under a Not.
 pub fn normal(alloc: Global, path: &Path) -> Result<Path, OutOfMemory>
     ensures is { IfOk result (λ form. form ≡ normal_of path.now) }
     ensures own { IfOk result IsNormalForm }
     ensures functions { HasNoFunctionUnderNot path.now → IfOk result HasNoFunctionUnderNot }
-    ensures language { HasNoFunctionUnderNot path.now → IfOk result (λ form. (w : List Symbol) → InLanguage form w ↔ InLanguage path.now w) }
+    ensures language { HasNoFunctionUnderNot path.now → IfOk result (TakesSameWords path.now) }
 {
     forms::normal_form(alloc, path)
 }
@@ -33,7 +34,7 @@ pub fn derivative(alloc: Global, path: &Path, symbol: Symbol) -> Result<Path, Ou
     ensures is { IfOk result (λ rest. rest ≡ derivative_of path.now symbol) }
     ensures own { IsNormalForm path.now → IfOk result IsNormalForm }
     ensures functions { HasNoFunctionUnderNot path.now → IfOk result HasNoFunctionUnderNot }
-    ensures quotient { HasNoFunctionUnderNot path.now → IfOk result (λ rest. (w : List Symbol) → InLanguage rest w ↔ InLanguage path.now (symbol ∷ w)) }
+    ensures quotient { HasNoFunctionUnderNot path.now → IfOk result (IsQuotient path.now symbol) }
 {
     forms::after(alloc, path, symbol)
 }

@@ -1,8 +1,9 @@
 //! Paths put together, in normal form where their parts are.
 
-ghost use Rattle.std.specs.Prelude.{◌≡◌, ◌≤◌, length, IfOk, OnOk, MatchOption};
-ghost use Rattle.std.specs.List.{insert};
-ghost use Rattle.path_regex.specs.Normal.{before as before_of, cat_of as cat, members, added, added_all, one_of, alt_of as alt, star_of as star, not_of as complement};
+ghost use Rattle.std.specs.Prelude.{◌≡◌, IfOk, OnOk};
+ghost use Rattle.path_regex.specs.Normal.{grouped_cat as grouped, cat_of as cat, star_of as star};
+ghost use Rattle.path_regex.specs.Normal.{members, added, added_all, IsPlaceFor};
+ghost use Rattle.path_regex.specs.Normal.{one_of, alt_of as alt, not_of as complement};
 
 use crate::order::compare;
 use merlin_model::OutOfMemory;
@@ -12,14 +13,14 @@ use std::alloc::Global;
 use std::cmp::Ordering;
 
 /// The first followed by the rest, which is neither Nothing nor Empty.
-fn before(alloc: Global, first: Path, rest: Path) -> Result<Path, OutOfMemory>
-    ensures { IfOk result (λ path. path ≡ before_of first rest) }
+fn grouped_cat(alloc: Global, first: Path, rest: Path) -> Result<Path, OutOfMemory>
+    ensures { IfOk result (λ path. path ≡ grouped first rest) }
 {
     match first {
         Path::Nothing => Ok(Path::Nothing),
         Path::Empty => Ok(rest),
         Path::Cat(head, tail) => {
-            let tail = before(alloc, tail.into_inner(), rest)?;
+            let tail = grouped_cat(alloc, tail.into_inner(), rest)?;
             Ok(Path::Cat(head, Boxed::new(alloc, tail)?))
         }
         first => Ok(Path::Cat(Boxed::new(alloc, first)?, Boxed::new(alloc, rest)?)),
@@ -33,13 +34,13 @@ pub fn cat_of(alloc: Global, first: Path, rest: Path) -> Result<Path, OutOfMemor
     match rest {
         Path::Nothing => Ok(Path::Nothing),
         Path::Empty => Ok(first),
-        rest => before(alloc, first, rest),
+        rest => grouped_cat(alloc, first, rest),
     }
 }
 
 /// The place of a path among others in order, unless it is there.
 fn place(others: &[Path], path: &Path) -> Option<usize>
-    ensures { MatchOption result (added path.now others.now ≡ others.now) (λ at. (at ≤ length others.now) × (added path.now others.now ≡ insert others.now at path.now)) }
+    ensures { IsPlaceFor path.now others.now result }
 {
     for (at, other) in others.iter().enumerate() {
         match compare(path, other) {
@@ -94,11 +95,11 @@ fn one_of_paths(mut paths: Vec<Path>) -> Path
 pub fn alt_of(alloc: Global, mut paths: Items<Path>) -> Result<Path, OutOfMemory>
     ensures { IfOk result (λ path. path ≡ alt paths) }
 {
-    let mut ascending = Vec::new(alloc);
+    let mut ordered = Vec::new(alloc);
     while let Some(path) = paths.pop() {
-        add_members(&mut ascending, path)?;
+        add_members(&mut ordered, path)?;
     }
-    Ok(one_of_paths(ascending))
+    Ok(one_of_paths(ordered))
 }
 
 /// Any number of the path, one after another.

@@ -1,5 +1,5 @@
 pub mod Reaching
 pub mod Choosing
-pub mod Grounds
+pub mod Graphs
 pub mod Pouring
 pub mod Standing

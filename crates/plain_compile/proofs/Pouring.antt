@@ -5,11 +5,11 @@ use Rattle.std.proofs.lemmas.List.{take_more}
 use Rattle.std.proofs.lemmas.List.Elements.{filter_map-append}
 use Rattle.std.proofs.lemmas.List.Concat.{flat_map-append}
 use Rattle.merlin_model.specs.declared.config.Rule.{Rule}
-use Rattle.merlin_model.specs.declared.network.Wire.{Wire}
+use Rattle.merlin_model.specs.declared.network.DirectedLink.{DirectedLink}
 use Rattle.merlin_model.specs.Networks.{Network, kind_of}
-use Rattle.rules_model.specs.declared.station.Station.{Station}
-use Rattle.rules_model.specs.Tables.{Row, is_host, is_switch, rules_of_row, rules_by_tag, tag_rule, back_rule, cell_rule, last_rule}
-use Rattle.rules_model.specs.Plain.{station_at, stations, row_over, rows_towards, rows_at, entries_at, plain_rules_at}
+use Rattle.rules_model.specs.declared.attached_host.AttachedHost.{AttachedHost}
+use Rattle.rules_model.specs.Tables.{TableRow, is_host_kind, is_switch_kind, rules_of_row, rules_by_tag, tag_rule, back_rule, cell_rule, last_rule}
+use Rattle.rules_model.specs.Plain.{attached_host_at, attached_hosts, row_over, rows_towards, rows_at, entries_at, plain_rules_at}
 use Rattle.plain_compile.specs.declared.tables.Target.{Target}
 use Rattle.plain_compile.specs.Tables.{target_over, targets_of}
 
@@ -22,46 +22,46 @@ pub range-next : (n : ℕ) → range_with_len 0 (n + 1) ≡ range_with_len 0 n +
 range-next n = ap (range_with_len 0) (add-one n) ∙ range-more 0 n ∙ ap (λ k. range_with_len 0 n ++ k ∷ []) (zero-add n)
 
 -- Targets.
-module _ (next : ℕ → ℕ → Option Wire) (hosts : List Station) (loc i : ℕ) (d : Station) (within : i < length hosts) where
-  abbrev this : Station
+module _ (next : ℕ → ℕ → Option DirectedLink) (hosts : List AttachedHost) (loc i : ℕ) (d : AttachedHost) (within : i < length hosts) where
+  abbrev this : AttachedHost
   this = get_or hosts i d
 
-  more_targets : (o : Option Wire) → next this.loc loc ≡ o → targets_of next (take (i + 1) hosts) loc ≡ targets_of next (take i hosts) loc ++ targets_of (λ _ _. o) (this ∷ []) loc
+  more_targets : (o : Option DirectedLink) → next this.loc loc ≡ o → targets_of next (take (i + 1) hosts) loc ≡ targets_of next (take i hosts) loc ++ targets_of (λ _ _. o) (this ∷ []) loc
   more_targets o e =
       ap (λ hs. targets_of next hs loc) (take_more hosts i d within)
       ∙ filter_map-append (λ h. option_map (target_over h) (next h.loc loc)) (take i hosts) (this ∷ [])
       ∙ ap (λ p. targets_of next (take i hosts) loc ++ targets_of (λ _ _. p) (this ∷ []) loc) e
 
-  pub target-some : (wire : Wire) → next this.loc loc ≡ Some wire → targets_of next (take i hosts) loc ++ target_over this wire ∷ [] ≡ targets_of next (take (i + 1) hosts) loc
-  target-some wire e = sym (more_targets (Some wire) e)
+  pub target-some : (link : DirectedLink) → next this.loc loc ≡ Some link → targets_of next (take i hosts) loc ++ target_over this link ∷ [] ≡ targets_of next (take (i + 1) hosts) loc
+  target-some link e = sym (more_targets (Some link) e)
 
   pub target-none : next this.loc loc ≡ None → targets_of next (take i hosts) loc ≡ targets_of next (take (i + 1) hosts) loc
   target-none e = sym (more_targets None e ∙ append-nil (targets_of next (take i hosts) loc))
 
--- Stations.
-module _ (net : Network) (loc : ℕ) (found : List Station) (before : found ≡ filter_map (station_at net) (range_with_len 0 loc)) where
-  more_stations : (o : Option Station) → station_at net loc ≡ o → filter_map (station_at net) (range_with_len 0 (loc + 1)) ≡ found ++ filter_map (λ _. o) (loc ∷ [])
-  more_stations o e =
-      ap (filter_map (station_at net)) (range-next loc)
-      ∙ filter_map-append (station_at net) (range_with_len 0 loc) (loc ∷ [])
-      ∙ ap (λ xs. xs ++ filter_map (station_at net) (loc ∷ [])) (sym before)
+-- Attached hosts.
+module _ (net : Network) (loc : ℕ) (found : List AttachedHost) (before : found ≡ filter_map (attached_host_at net) (range_with_len 0 loc)) where
+  more_attached_hosts : (o : Option AttachedHost) → attached_host_at net loc ≡ o → filter_map (attached_host_at net) (range_with_len 0 (loc + 1)) ≡ found ++ filter_map (λ _. o) (loc ∷ [])
+  more_attached_hosts o e =
+      ap (filter_map (attached_host_at net)) (range-next loc)
+      ∙ filter_map-append (attached_host_at net) (range_with_len 0 loc) (loc ∷ [])
+      ∙ ap (λ xs. xs ++ filter_map (attached_host_at net) (loc ∷ [])) (sym before)
       ∙ ap (λ s. found ++ filter_map (λ _. s) (loc ∷ [])) e
 
-  pub station-some : (station : Station) → station_at net loc ≡ Some station → found ++ station ∷ [] ≡ filter_map (station_at net) (range_with_len 0 (loc + 1))
-  station-some station e = sym (more_stations (Some station) e)
+  pub attached_host-some : (attached_host : AttachedHost) → attached_host_at net loc ≡ Some attached_host → found ++ attached_host ∷ [] ≡ filter_map (attached_host_at net) (range_with_len 0 (loc + 1))
+  attached_host-some attached_host e = sym (more_attached_hosts (Some attached_host) e)
 
-  pub station-none : station_at net loc ≡ None → found ≡ filter_map (station_at net) (range_with_len 0 (loc + 1))
-  station-none e = sym (more_stations None e ∙ append-nil found)
+  pub attached_host-none : attached_host_at net loc ≡ None → found ≡ filter_map (attached_host_at net) (range_with_len 0 (loc + 1))
+  attached_host-none e = sym (more_attached_hosts None e ∙ append-nil found)
 
 -- The rules of one row.
-module _ (net : Network) (next : ℕ → ℕ → Option Wire) (v : ℕ) (d : Station) (wire : Wire) where
-  abbrev row : Row
-  row = row_over net next v d wire
+module _ (net : Network) (next : ℕ → ℕ → Option DirectedLink) (v : ℕ) (d : AttachedHost) (link : DirectedLink) where
+  abbrev row : TableRow
+  row = row_over net next v d link
 
-  pub rules-last : is_host (kind_of net wire.to) ≡ true → tag_rule row ∷ [] ≡ rules_of_row row
+  pub rules-last : is_host_kind (kind_of net link.to) ≡ true → tag_rule row ∷ [] ≡ rules_of_row row
   rules-last e = ap (λ b. rules_by_tag row (cond b None (Some 1))) (sym e)
 
-  pub rules-between : is_host (kind_of net wire.to) ≡ false → back_rule row ∷ tag_rule row ∷ [] ≡ rules_of_row row
+  pub rules-between : is_host_kind (kind_of net link.to) ≡ false → back_rule row ∷ tag_rule row ∷ [] ≡ rules_of_row row
   rules-between e = ap (λ b. rules_by_tag row (cond b None (Some 1))) (sym e)
 
 -- One more piece of a list that is put together.
@@ -106,42 +106,42 @@ module _ {X Y : Type 0} (f : X → Y) (p : X → Bool) (old have : List Y) (xs :
   chosen-none e = sym (chosen_more false e ∙ append-nil have)
 
 -- The rows of targets are the rows of the plan.
-pub rows-targets : (net : Network) (next : ℕ → ℕ → Option Wire) (v : ℕ) (hosts : List Station) →
-    map (λ t. row_over net next v t.host t.wire) (targets_of next hosts v) ≡ filter_map (λ d. option_map (row_over net next v d) (next d.loc v)) hosts
+pub rows-targets : (net : Network) (next : ℕ → ℕ → Option DirectedLink) (v : ℕ) (hosts : List AttachedHost) →
+    map (λ t. row_over net next v t.host t.link) (targets_of next hosts v) ≡ filter_map (λ d. option_map (row_over net next v d) (next d.loc v)) hosts
 rows-targets net next v [] = refl
 rows-targets net next v (h ∷ hosts) = by (next h.loc v) (rows-targets net next v hosts)
   where
-    by : (o : Option Wire) → map (λ t. row_over net next v t.host t.wire) (targets_of next hosts v) ≡ filter_map (λ d. option_map (row_over net next v d) (next d.loc v)) hosts →
-        map (λ t. row_over net next v t.host t.wire) (cons_option (option_map (target_over h) o) (targets_of next hosts v))
+    by : (o : Option DirectedLink) → map (λ t. row_over net next v t.host t.link) (targets_of next hosts v) ≡ filter_map (λ d. option_map (row_over net next v d) (next d.loc v)) hosts →
+        map (λ t. row_over net next v t.host t.link) (cons_option (option_map (target_over h) o) (targets_of next hosts v))
         ≡ cons_option (option_map (row_over net next v h) o) (filter_map (λ d. option_map (row_over net next v d) (next d.loc v)) hosts)
     by None ih = ih
-    by (Some wire) ih = ap (λ rows. row_over net next v h wire ∷ rows) ih
+    by (Some link) ih = ap (λ rows. row_over net next v h link ∷ rows) ih
 
 length-map : {X Y : Type 0} (f : X → Y) (xs : List X) → length (map f xs) ≡ length xs
 length-map f [] = refl
 length-map f (x ∷ xs) = ap suc (length-map f xs)
 
 -- the rules for tagged frames at a switch
-pub tagged-rows : (net : Network) (next : ℕ → ℕ → Option Wire) (v : ℕ) (ts : List Target) → ts ≡ targets_of next (stations net) v →
-    flat_map (λ t. rules_of_row (row_over net next v t.host t.wire)) (cond (length ts == 1) [] ts) ≡ flat_map rules_of_row (rows_at net next v)
+pub tagged-rows : (net : Network) (next : ℕ → ℕ → Option DirectedLink) (v : ℕ) (ts : List Target) → ts ≡ targets_of next (attached_hosts net) v →
+    flat_map (λ t. rules_of_row (row_over net next v t.host t.link)) (cond (length ts == 1) [] ts) ≡ flat_map rules_of_row (rows_at net next v)
 tagged-rows net next v ts e = by (length ts == 1) refl
   where
-    rows : map (λ t. row_over net next v t.host t.wire) ts ≡ rows_towards net next v
-    rows = ap (map (λ t. row_over net next v t.host t.wire)) e ∙ rows-targets net next v (stations net)
+    rows : map (λ t. row_over net next v t.host t.link) ts ≡ rows_towards net next v
+    rows = ap (map (λ t. row_over net next v t.host t.link)) e ∙ rows-targets net next v (attached_hosts net)
 
     long : length (rows_towards net next v) ≡ length ts
-    long = ap length (sym rows) ∙ length-map (λ t. row_over net next v t.host t.wire) ts
+    long = ap length (sym rows) ∙ length-map (λ t. row_over net next v t.host t.link) ts
 
-    spread : (xs : List Target) → flat_map (λ t. rules_of_row (row_over net next v t.host t.wire)) xs ≡ flat_map rules_of_row (map (λ t. row_over net next v t.host t.wire) xs)
+    spread : (xs : List Target) → flat_map (λ t. rules_of_row (row_over net next v t.host t.link)) xs ≡ flat_map rules_of_row (map (λ t. row_over net next v t.host t.link) xs)
     spread [] = refl
-    spread (x ∷ xs) = ap (λ rs. rules_of_row (row_over net next v x.host x.wire) ++ rs) (spread xs)
+    spread (x ∷ xs) = ap (λ rs. rules_of_row (row_over net next v x.host x.link) ++ rs) (spread xs)
 
-    by : (b : Bool) → (length ts == 1) ≡ b → flat_map (λ t. rules_of_row (row_over net next v t.host t.wire)) (cond b [] ts) ≡ flat_map rules_of_row (rows_at net next v)
+    by : (b : Bool) → (length ts == 1) ≡ b → flat_map (λ t. rules_of_row (row_over net next v t.host t.link)) (cond b [] ts) ≡ flat_map rules_of_row (rows_at net next v)
     by true f = ap (λ c. flat_map rules_of_row (cond c [] (rows_towards net next v))) (sym (ap (λ n. n == 1) long ∙ f))
     by false f = spread ts ∙ ap (flat_map rules_of_row) rows ∙ ap (λ c. flat_map rules_of_row (cond c [] (rows_towards net next v))) (sym (ap (λ n. n == 1) long ∙ f))
 
 -- all rules of a switch, put together
-pub switch-rules : (net : Network) (next : ℕ → ℕ → Option Wire) (v : ℕ) (old tagged cells new : List Rule) (last : Rule) →
+pub switch-rules : (net : Network) (next : ℕ → ℕ → Option DirectedLink) (v : ℕ) (old tagged cells new : List Rule) (last : Rule) →
     tagged ≡ old ++ flat_map rules_of_row (rows_at net next v) → cells ≡ tagged ++ map cell_rule (entries_at net next v) → new ≡ cells ++ last ∷ [] → last ≡ last_rule v →
     new ≡ old ++ plain_rules_at net next v
 switch-rules net next v old tagged cells new last et ec en el =
@@ -151,18 +151,18 @@ switch-rules net next v old tagged cells new last et ec en el =
     ∙ ap (λ l. old ++ (flat_map rules_of_row (rows_at net next v) ++ (map cell_rule (entries_at net next v) ++ l ∷ []))) el
 
 -- one more switch, or a location that is none
-module _ (net : Network) (next : ℕ → ℕ → Option Wire) (v : ℕ) (have : List Rule) (before : have ≡ flat_map (plain_rules_at net next) (filter (λ n. is_switch (kind_of net n)) (range_with_len 0 v))) where
-  more : (b : Bool) → is_switch (kind_of net v) ≡ b →
-      flat_map (plain_rules_at net next) (filter (λ n. is_switch (kind_of net n)) (range_with_len 0 (v + 1))) ≡ have ++ flat_map (plain_rules_at net next) (cond b (v ∷ []) [])
+module _ (net : Network) (next : ℕ → ℕ → Option DirectedLink) (v : ℕ) (have : List Rule) (before : have ≡ flat_map (plain_rules_at net next) (filter (λ n. is_switch_kind (kind_of net n)) (range_with_len 0 v))) where
+  more : (b : Bool) → is_switch_kind (kind_of net v) ≡ b →
+      flat_map (plain_rules_at net next) (filter (λ n. is_switch_kind (kind_of net n)) (range_with_len 0 (v + 1))) ≡ have ++ flat_map (plain_rules_at net next) (cond b (v ∷ []) [])
   more b e =
-      ap (λ ns. flat_map (plain_rules_at net next) (filter (λ n. is_switch (kind_of net n)) ns)) (range-next v)
-      ∙ ap (flat_map (plain_rules_at net next)) (filter-append (λ n. is_switch (kind_of net n)) (range_with_len 0 v) (v ∷ []))
-      ∙ flat_map-append (plain_rules_at net next) (filter (λ n. is_switch (kind_of net n)) (range_with_len 0 v)) (filter (λ n. is_switch (kind_of net n)) (v ∷ []))
-      ∙ ap (λ h. h ++ flat_map (plain_rules_at net next) (filter (λ n. is_switch (kind_of net n)) (v ∷ []))) (sym before)
+      ap (λ ns. flat_map (plain_rules_at net next) (filter (λ n. is_switch_kind (kind_of net n)) ns)) (range-next v)
+      ∙ ap (flat_map (plain_rules_at net next)) (filter-append (λ n. is_switch_kind (kind_of net n)) (range_with_len 0 v) (v ∷ []))
+      ∙ flat_map-append (plain_rules_at net next) (filter (λ n. is_switch_kind (kind_of net n)) (range_with_len 0 v)) (filter (λ n. is_switch_kind (kind_of net n)) (v ∷ []))
+      ∙ ap (λ h. h ++ flat_map (plain_rules_at net next) (filter (λ n. is_switch_kind (kind_of net n)) (v ∷ []))) (sym before)
       ∙ ap (λ c. have ++ flat_map (plain_rules_at net next) (cond c (v ∷ []) [])) e
 
-  pub switch-more : is_switch (kind_of net v) ≡ true → have ++ plain_rules_at net next v ≡ flat_map (plain_rules_at net next) (filter (λ n. is_switch (kind_of net n)) (range_with_len 0 (v + 1)))
+  pub switch-more : is_switch_kind (kind_of net v) ≡ true → have ++ plain_rules_at net next v ≡ flat_map (plain_rules_at net next) (filter (λ n. is_switch_kind (kind_of net n)) (range_with_len 0 (v + 1)))
   switch-more e = sym (more true e ∙ ap (λ p. have ++ p) (append-nil (plain_rules_at net next v)))
 
-  pub other-more : is_switch (kind_of net v) ≡ false → have ≡ flat_map (plain_rules_at net next) (filter (λ n. is_switch (kind_of net n)) (range_with_len 0 (v + 1)))
+  pub other-more : is_switch_kind (kind_of net v) ≡ false → have ≡ flat_map (plain_rules_at net next) (filter (λ n. is_switch_kind (kind_of net n)) (range_with_len 0 (v + 1)))
   other-more e = sym (more false e ∙ append-nil have)

@@ -4,7 +4,7 @@ use Rattle.std.proofs.lemmas.List.{get_or-set_same, get_or-set_other, length-set
 use Rattle.std.proofs.lemmas.List.Sums.{sum_by-set}
 use Rattle.std.proofs.lemmas.Bool.{eqb-true, eq-eqb}
 use Rattle.std.proofs.lemmas.Option.{slice_get_within, get_or_from_slice_get, slice_get-get_or}
-use Rattle.merlin_model.specs.declared.network.Wire.{Wire}
+use Rattle.merlin_model.specs.declared.network.DirectedLink.{DirectedLink}
 use Rattle.plain_compile.specs.Levels.{is_at, level_of, unreached, IsOnward, IsLevelledTo}
 
 pub None-Some : {X : Type 0} {x : X} → None ≡ Some x → ⊥
@@ -40,31 +40,31 @@ unreached-set levels v k within none =
     let one : count (level_of levels v) ≡ 1 = ap count none in
     omega arith
 
--- a switch that is given the next level: it had none, and a wire leads to it from this level
-pub record IsNew (wires : List Wire) (switches : List Bool) (level : ℕ) (start levels : List (Option ℕ)) (v : ℕ) : Type 0 where
+-- a switch that is given the next level: it had none, and a directed link leads to it from this level
+pub record IsNew (directed_links : List DirectedLink) (switches : List Bool) (level : ℕ) (start levels : List (Option ℕ)) (v : ℕ) : Type 0 where
   pub had : level_of start v ≡ None
   pub has : level_of levels v ≡ Some (suc level)
   pub switch : is_at switches v ≡ true
-  pub wire : Wire
-  pub present : Contains wires wire
-  pub leads : wire.to ≡ v
-  pub from : level_of start wire.from ≡ Some level
+  pub link : DirectedLink
+  pub present : Contains directed_links link
+  pub leads : link.to ≡ v
+  pub from : level_of start link.from ≡ Some level
 
--- in the middle of a pass: the wires before place i were looked at
-pub record IsPassing (wires : List Wire) (switches : List Bool) (level : ℕ) (start levels : List (Option ℕ)) (grows : Bool) (i : ℕ) : Type 0 where
+-- in the middle of a pass: the directed links before place i were looked at
+pub record IsPassing (directed_links : List DirectedLink) (switches : List Bool) (level : ℕ) (start levels : List (Option ℕ)) (grows : Bool) (i : ℕ) : Type 0 where
   pub size : length levels ≡ length switches
-  pub each : (v : ℕ) → (level_of levels v ≡ level_of start v) ⊎ IsNew wires switches level start levels v
-  pub done : (k : ℕ) (wire : Wire) → k < i → slice_get wires k ≡ Some wire → level_of start wire.from ≡ Some level → is_at switches wire.to ≡ true → level_of levels wire.to ≢ None
+  pub each : (v : ℕ) → (level_of levels v ≡ level_of start v) ⊎ IsNew directed_links switches level start levels v
+  pub done : (k : ℕ) (link : DirectedLink) → k < i → slice_get directed_links k ≡ Some link → level_of start link.from ≡ Some level → is_at switches link.to ≡ true → level_of levels link.to ≢ None
   pub no_more : unreached levels ≤ unreached start
   pub fewer : grows ≡ true → unreached levels < unreached start
   pub same : grows ≡ false → levels ≡ start
 
-module _ (wires : List Wire) (switches : List Bool) (level : ℕ) (start levels : List (Option ℕ)) (grows : Bool) (i : ℕ) (passing : IsPassing wires switches level start levels grows i) where
+module _ (directed_links : List DirectedLink) (switches : List Bool) (level : ℕ) (start levels : List (Option ℕ)) (grows : Bool) (i : ℕ) (passing : IsPassing directed_links switches level start levels grows i) where
   -- what had a level keeps it
   pub kept : (v k : ℕ) → level_of start v ≡ Some k → level_of levels v ≡ Some k
   kept v k e = by (passing.each v)
     where
-      by : (level_of levels v ≡ level_of start v) ⊎ IsNew wires switches level start levels v → level_of levels v ≡ Some k
+      by : (level_of levels v ≡ level_of start v) ⊎ IsNew directed_links switches level start levels v → level_of levels v ≡ Some k
       by (inl same) = same ∙ e
       by (inr new) = absurd (None-Some (sym new.had ∙ e))
 
@@ -72,85 +72,85 @@ module _ (wires : List Wire) (switches : List Bool) (level : ℕ) (start levels 
   pub had_this : (v : ℕ) → level_of levels v ≡ Some level → level_of start v ≡ Some level
   had_this v e = by (passing.each v)
     where
-      by : (level_of levels v ≡ level_of start v) ⊎ IsNew wires switches level start levels v → level_of start v ≡ Some level
+      by : (level_of levels v ≡ level_of start v) ⊎ IsNew directed_links switches level start levels v → level_of start v ≡ Some level
       by (inl same) = sym same ∙ e
       by (inr new) = let over : suc level ≡ level = Some-inj (sym new.has ∙ e) in absurd (omega arith)
 
-  -- a wire that is no way on changes nothing
-  pub passed : (wire : Wire) → slice_get wires i ≡ Some wire → ¬ IsOnward wire switches level levels → IsPassing wires switches level start levels grows (i + 1)
-  passed wire at other = record { size = passing.size; each = passing.each; done = done; no_more = passing.no_more; fewer = passing.fewer; same = passing.same }
+  -- a directed link that is no way on changes nothing
+  pub passed : (link : DirectedLink) → slice_get directed_links i ≡ Some link → ¬ IsOnward link switches level levels → IsPassing directed_links switches level start levels grows (i + 1)
+  passed link at other = record { size = passing.size; each = passing.each; done = done; no_more = passing.no_more; fewer = passing.fewer; same = passing.same }
     where
-      this : (w : Wire) → slice_get wires i ≡ Some w → level_of start w.from ≡ Some level → is_at switches w.to ≡ true → level_of levels w.to ≢ None
+      this : (w : DirectedLink) → slice_get directed_links i ≡ Some w → level_of start w.from ≡ Some level → is_at switches w.to ≡ true → level_of levels w.to ≢ None
       this w e from switch none = other (subst (λ x. IsOnward x switches level levels) (Some-inj (sym e ∙ at)) (record { from = kept w.from level from; switch = switch; unreached = none }))
 
-      done : (k : ℕ) (w : Wire) → k < i + 1 → slice_get wires k ≡ Some w → level_of start w.from ≡ Some level → is_at switches w.to ≡ true → level_of levels w.to ≢ None
+      done : (k : ℕ) (w : DirectedLink) → k < i + 1 → slice_get directed_links k ≡ Some w → level_of start w.from ≡ Some level → is_at switches w.to ≡ true → level_of levels w.to ≢ None
       done k w lt e from switch = by (less_or_equal k lt)
         where
           by : (k < i) ⊎ (k ≡ i) → level_of levels w.to ≢ None
           by (inl less) = passing.done k w less e from switch
-          by (inr same) = this w (subst (λ n. slice_get wires n ≡ Some w) same e) from switch
+          by (inr same) = this w (subst (λ n. slice_get directed_links n ≡ Some w) same e) from switch
 
-  -- a wire that is one gives its far end the next level
-  pub reached : (wire : Wire) → slice_get wires i ≡ Some wire → wire.to < length levels → IsOnward wire switches level levels →
-      IsPassing wires switches level start (slice_set levels wire.to (Some (level + 1))) true (i + 1)
-  reached wire at within onward = record { size = size; each = each; done = done; no_more = no_more; fewer = λ _. less; same = λ e. absurd (true-false e) }
+  -- a directed link that is one gives its far end the next level
+  pub reached : (link : DirectedLink) → slice_get directed_links i ≡ Some link → link.to < length levels → IsOnward link switches level levels →
+      IsPassing directed_links switches level start (slice_set levels link.to (Some (level + 1))) true (i + 1)
+  reached link at within onward = record { size = size; each = each; done = done; no_more = no_more; fewer = λ _. less; same = λ e. absurd (true-false e) }
     where
       next : List (Option ℕ)
-      next = slice_set levels wire.to (Some (level + 1))
+      next = slice_set levels link.to (Some (level + 1))
 
-      here : level_of next wire.to ≡ Some (suc level)
-      here = get_or-set_same levels wire.to (Some (level + 1)) None within ∙ ap Some (add-one level)
+      here : level_of next link.to ≡ Some (suc level)
+      here = get_or-set_same levels link.to (Some (level + 1)) None within ∙ ap Some (add-one level)
 
-      elsewhere : (v : ℕ) → v ≢ wire.to → level_of next v ≡ level_of levels v
-      elsewhere v other = get_or-set_other levels wire.to v (Some (level + 1)) None other
+      elsewhere : (v : ℕ) → v ≢ link.to → level_of next v ≡ level_of levels v
+      elsewhere v other = get_or-set_other levels link.to v (Some (level + 1)) None other
 
       size : length next ≡ length switches
-      size = length-set levels wire.to (Some (level + 1)) ∙ passing.size
+      size = length-set levels link.to (Some (level + 1)) ∙ passing.size
 
-      had : level_of start wire.to ≡ None
-      had = by (level_of start wire.to) refl
+      had : level_of start link.to ≡ None
+      had = by (level_of start link.to) refl
         where
-          by : (o : Option ℕ) → level_of start wire.to ≡ o → level_of start wire.to ≡ None
+          by : (o : Option ℕ) → level_of start link.to ≡ o → level_of start link.to ≡ None
           by None e = e
-          by (Some k) e = absurd (None-Some (sym onward.unreached ∙ kept wire.to k e))
+          by (Some k) e = absurd (None-Some (sym onward.unreached ∙ kept link.to k e))
 
-      new : IsNew wires switches level start next wire.to
+      new : IsNew directed_links switches level start next link.to
       new = record {
         had = had;
         has = here;
         switch = onward.switch;
-        wire = wire;
-        present = (i, slice_get_within wires i wire at, get_or_from_slice_get wires i wire wire at);
+        link = link;
+        present = (i, slice_get_within directed_links i link at, get_or_from_slice_get directed_links i link link at);
         leads = refl;
-        from = had_this wire.from onward.from;
+        from = had_this link.from onward.from;
       }
 
-      each : (v : ℕ) → (level_of next v ≡ level_of start v) ⊎ IsNew wires switches level start next v
-      each v = by (same_or_other v wire.to) (passing.each v)
+      each : (v : ℕ) → (level_of next v ≡ level_of start v) ⊎ IsNew directed_links switches level start next v
+      each v = by (same_or_other v link.to) (passing.each v)
         where
-          by : (v ≡ wire.to) ⊎ (v ≢ wire.to) → (level_of levels v ≡ level_of start v) ⊎ IsNew wires switches level start levels v →
-              (level_of next v ≡ level_of start v) ⊎ IsNew wires switches level start next v
-          by (inl e) h = inr (subst (IsNew wires switches level start next) (sym e) new)
+          by : (v ≡ link.to) ⊎ (v ≢ link.to) → (level_of levels v ≡ level_of start v) ⊎ IsNew directed_links switches level start levels v →
+              (level_of next v ≡ level_of start v) ⊎ IsNew directed_links switches level start next v
+          by (inl e) h = inr (subst (IsNew directed_links switches level start next) (sym e) new)
           by (inr other) (inl same) = inl (elsewhere v other ∙ same)
-          by (inr other) (inr n) = inr (record { had = n.had; has = elsewhere v other ∙ n.has; switch = n.switch; wire = n.wire; present = n.present; leads = n.leads; from = n.from })
+          by (inr other) (inr n) = inr (record { had = n.had; has = elsewhere v other ∙ n.has; switch = n.switch; link = n.link; present = n.present; leads = n.leads; from = n.from })
 
       given : (v : ℕ) → level_of levels v ≢ None → level_of next v ≢ None
-      given v some none = by (same_or_other v wire.to)
+      given v some none = by (same_or_other v link.to)
         where
-          by : (v ≡ wire.to) ⊎ (v ≢ wire.to) → ⊥
+          by : (v ≡ link.to) ⊎ (v ≢ link.to) → ⊥
           by (inl e) = None-Some (sym none ∙ ap (level_of next) e ∙ here)
           by (inr other) = some (sym (elsewhere v other) ∙ none)
 
-      done : (k : ℕ) (w : Wire) → k < i + 1 → slice_get wires k ≡ Some w → level_of start w.from ≡ Some level → is_at switches w.to ≡ true → level_of next w.to ≢ None
+      done : (k : ℕ) (w : DirectedLink) → k < i + 1 → slice_get directed_links k ≡ Some w → level_of start w.from ≡ Some level → is_at switches w.to ≡ true → level_of next w.to ≢ None
       done k w lt e from switch = by (less_or_equal k lt)
         where
           by : (k < i) ⊎ (k ≡ i) → level_of next w.to ≢ None
           by (inl less) = given w.to (passing.done k w less e from switch)
-          by (inr same) = λ none. None-Some (sym none ∙ ap (λ x. level_of next x.to) (Some-inj (sym e ∙ ap (slice_get wires) same ∙ at)) ∙ here)
+          by (inr same) = λ none. None-Some (sym none ∙ ap (λ x. level_of next x.to) (Some-inj (sym e ∙ ap (slice_get directed_links) same ∙ at)) ∙ here)
 
       less : unreached next < unreached start
       less =
-          let one = unreached-set levels wire.to (level + 1) within onward.unreached in
+          let one = unreached-set levels link.to (level + 1) within onward.unreached in
           let most = passing.no_more in
           omega arith
 
@@ -158,18 +158,18 @@ module _ (wires : List Wire) (switches : List Bool) (level : ℕ) (start levels 
       no_more = let l = less in omega arith
 
 -- after a whole pass the levels are right one further
-pub levelled : (wires : List Wire) (switches : List Bool) (host level : ℕ) (start levels : List (Option ℕ)) (grows : Bool) (i : ℕ) → length wires ≤ i →
-    IsPassing wires switches level start levels grows i → IsLevelledTo wires switches host level start → IsLevelledTo wires switches host (level + 1) levels
-levelled wires switches host level start levels grows i whole passing h =
+pub levelled : (directed_links : List DirectedLink) (switches : List Bool) (host level : ℕ) (start levels : List (Option ℕ)) (grows : Bool) (i : ℕ) → length directed_links ≤ i →
+    IsPassing directed_links switches level start levels grows i → IsLevelledTo directed_links switches host level start → IsLevelledTo directed_links switches host (level + 1) levels
+levelled directed_links switches host level start levels grows i whole passing h =
     record { size = passing.size; start = keep host 0 h.start; only = only; switch = switch; low = low; after = after; before = before }
   where
     keep : (v k : ℕ) → level_of start v ≡ Some k → level_of levels v ≡ Some k
-    keep v k e = kept wires switches level start levels grows i passing v k e
+    keep v k e = kept directed_links switches level start levels grows i passing v k e
 
     Each : ℕ → Type 0
-    Each v = (level_of levels v ≡ level_of start v) ⊎ IsNew wires switches level start levels v
+    Each v = (level_of levels v ≡ level_of start v) ⊎ IsNew directed_links switches level start levels v
 
-    number : (v k : ℕ) → IsNew wires switches level start levels v → level_of levels v ≡ Some k → k ≡ suc level
+    number : (v k : ℕ) → IsNew directed_links switches level start levels v → level_of levels v ≡ Some k → k ≡ suc level
     number v k n e = Some-inj (sym e ∙ n.has)
 
     only : (v : ℕ) → level_of levels v ≡ Some 0 → v ≡ host
@@ -193,30 +193,30 @@ levelled wires switches host level start levels grows i whole passing h =
         by (inl same) = let most = h.low v k (sym same ∙ e) in omega arith
         by (inr n) = let is = number v k n e in omega arith
 
-    after : (v k : ℕ) → level_of levels v ≡ Some (suc k) → (wire : Wire) × Contains wires wire × (wire.to ≡ v) × (level_of levels wire.from ≡ Some k)
+    after : (v k : ℕ) → level_of levels v ≡ Some (suc k) → (link : DirectedLink) × Contains directed_links link × (link.to ≡ v) × (level_of levels link.from ≡ Some k)
     after v k e = by (passing.each v)
       where
-        by : Each v → (wire : Wire) × Contains wires wire × (wire.to ≡ v) × (level_of levels wire.from ≡ Some k)
+        by : Each v → (link : DirectedLink) × Contains directed_links link × (link.to ≡ v) × (level_of levels link.from ≡ Some k)
         by (inl same) = let was = h.after v k (sym same ∙ e) in (was.0, was.1, was.2, keep was.0.from k was.3)
-        by (inr n) = let is : level ≡ k = (let q = number v (suc k) n e in omega arith) in (n.wire, n.present, n.leads, keep n.wire.from level n.from ∙ ap Some is)
+        by (inr n) = let is : level ≡ k = (let q = number v (suc k) n e in omega arith) in (n.link, n.present, n.leads, keep n.link.from level n.from ∙ ap Some is)
 
-    before : (wire : Wire) (k : ℕ) → Contains wires wire → level_of levels wire.from ≡ Some k → k < level + 1 → is_at switches wire.to ≡ true →
-        (j : ℕ) × (level_of levels wire.to ≡ Some j) × (j ≤ suc k)
-    before wire k present e lt at = by (passing.each wire.from)
+    before : (link : DirectedLink) (k : ℕ) → Contains directed_links link → level_of levels link.from ≡ Some k → k < level + 1 → is_at switches link.to ≡ true →
+        (j : ℕ) × (level_of levels link.to ≡ Some j) × (j ≤ suc k)
+    before link k present e lt at = by (passing.each link.from)
       where
         Result : Type 0
-        Result = (j : ℕ) × (level_of levels wire.to ≡ Some j) × (j ≤ suc k)
+        Result = (j : ℕ) × (level_of levels link.to ≡ Some j) × (j ≤ suc k)
 
         -- the far end has some level, which is at most the next
-        far : k ≡ level → (o : Option ℕ) → level_of levels wire.to ≡ o → level_of levels wire.to ≢ None → Result
+        far : k ≡ level → (o : Option ℕ) → level_of levels link.to ≡ o → level_of levels link.to ≢ None → Result
         far same None f some = absurd (some f)
-        far same (Some j) f some = let most = low wire.to j f in (j, f, omega arith)
+        far same (Some j) f some = let most = low link.to j f in (j, f, omega arith)
 
-        was_there : level_of start wire.from ≡ Some k → (k < level) ⊎ (k ≡ level) → Result
-        was_there from (inl less) = let was = h.before wire k present from less at in (was.0, keep wire.to was.0 was.1, was.2)
-        was_there from (inr same) = far same (level_of levels wire.to) refl
-            (passing.done present.0 wire (let w = present.1 in omega arith) (slice_get-get_or wires present.0 wire present.1 ∙ ap Some present.2) (from ∙ ap Some same) at)
+        was_there : level_of start link.from ≡ Some k → (k < level) ⊎ (k ≡ level) → Result
+        was_there from (inl less) = let was = h.before link k present from less at in (was.0, keep link.to was.0 was.1, was.2)
+        was_there from (inr same) = far same (level_of levels link.to) refl
+            (passing.done present.0 link (let w = present.1 in omega arith) (slice_get-get_or directed_links present.0 link present.1 ∙ ap Some present.2) (from ∙ ap Some same) at)
 
-        by : Each wire.from → Result
+        by : Each link.from → Result
         by (inl same) = was_there (sym same ∙ e) (less_or_equal {i = level} k lt)
-        by (inr n) = let is = number wire.from k n e in absurd (omega arith)
+        by (inr n) = let is = number link.from k n e in absurd (omega arith)

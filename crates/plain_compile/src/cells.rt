@@ -1,14 +1,14 @@
-// Single rules of the policy that allows every way.
+//! Single rules of the policy that allows every way.
 ghost use Rattle.std.specs.Prelude.{◌≡◌, ◌<◌, length, None, option_map, IfOk, if◌then◌else◌};
 ghost use Rattle.merlin_model.specs.declared.config.Action.TheVariants.{SetVlan, StripVlan};
 ghost use Rattle.merlin_model.specs.Networks.{kind_of};
-ghost use Rattle.rules_model.specs.Tables.{is_host as is_host_kind, is_switch as is_switch_kind, tag_rule as tag_rule_of, back_rule as back_rule_of, cell_rule as cell_rule_of, last_rule as last_rule_of, ingress_actions as ingress_actions_of};
+ghost use Rattle.rules_model.specs.Tables.{is_host_kind, is_switch_kind, tag_rule as tag_rule_of, back_rule as back_rule_of, cell_rule as cell_rule_of, last_rule as last_rule_of, ingress_actions as ingress_actions_of};
 ghost use Rattle.rules_model.specs.Plain.{row_over, hop_over, entry_between};
 
 use merlin_model::OutOfMemory;
 use merlin_model::config::{Action, Actions, Match, Out, Rule, Vlan};
-use merlin_model::network::Wire;
-use rules_model::station::Station;
+use merlin_model::network::DirectedLink;
+use rules_model::attached_host::AttachedHost;
 use std::alloc::Global;
 use topology::{Place, Topology};
 
@@ -45,27 +45,28 @@ pub fn is_switch(net: &Topology, loc: usize) -> bool
 }
 
 // Untagged before a host, tagged before a switch.
-fn label(net: &Topology, wire: Wire) -> Action
-    ensures { result ≡ (if is_host_kind (kind_of net.now wire.to) then StripVlan else SetVlan 1) }
+fn label(net: &Topology, link: DirectedLink) -> Action
+    ensures { result ≡ (if is_host_kind (kind_of net.now link.to) then StripVlan else SetVlan 1) }
 {
-    if is_host(net, wire.to) {
+    if is_host(net, link.to) {
         Action::StripVlan
     } else {
         Action::SetVlan(TAG)
     }
 }
 
-/// The rule for tagged frames that go from switch `loc` to a host over the wire.
+/// The rule for tagged frames that go from switch `loc` to a host over the directed link.
 pub fn tag_rule(
     alloc: Global,
     net: &Topology,
     loc: usize,
-    host: &Station,
-    wire: Wire,
+    host: &AttachedHost,
+    link: DirectedLink,
 ) -> Result<Rule, OutOfMemory>
-    ensures { (next : _) → IfOk result (λ rule. rule ≡ tag_rule_of (row_over net.now next loc host.now wire)) }
+    ensures { (next : _) → IfOk result (λ rule.
+        rule ≡ tag_rule_of (row_over net.now next loc host.now link)) }
 {
-    let actions = [label(net, wire), Action::Output(Out::Port(wire.out_port))];
+    let actions = [label(net, link), Action::Output(Out::Port(link.out_port))];
     Ok(Rule {
         loc,
         priority: 100,
@@ -78,22 +79,23 @@ pub fn tag_rule(
     })
 }
 
-/// The same for frames that came in over that wire and have to go back.
+/// The same for frames that came in over that directed link and have to go back.
 pub fn back_rule(
     alloc: Global,
     net: &Topology,
     loc: usize,
-    host: &Station,
-    wire: Wire,
+    host: &AttachedHost,
+    link: DirectedLink,
 ) -> Result<Rule, OutOfMemory>
-    ensures { (next : _) → IfOk result (λ rule. rule ≡ back_rule_of (row_over net.now next loc host.now wire)) }
+    ensures { (next : _) → IfOk result (λ rule.
+        rule ≡ back_rule_of (row_over net.now next loc host.now link)) }
 {
-    let actions = [label(net, wire), Action::Output(Out::InPort)];
+    let actions = [label(net, link), Action::Output(Out::InPort)];
     Ok(Rule {
         loc,
         priority: 200,
         fits: Match {
-            in_port: Some(wire.out_port),
+            in_port: Some(link.out_port),
             dl_dst: Some(host.address.eth),
             dl_vlan: Some(Vlan::Tag(TAG)),
             ..ANY
@@ -102,15 +104,20 @@ pub fn back_rule(
     })
 }
 
-// What the first switch does with an untagged frame that goes on over the wire.
-fn ingress_actions(alloc: Global, net: &Topology, hop: Option<Wire>) -> Result<Actions, OutOfMemory>
-    ensures { (next : _) → IfOk result (λ actions. actions ≡ ingress_actions_of None (option_map (hop_over net.now next) hop)) }
+// What the first switch does with an untagged frame that goes on over the directed link.
+fn ingress_actions(
+    alloc: Global,
+    net: &Topology,
+    hop: Option<DirectedLink>,
+) -> Result<Actions, OutOfMemory>
+    ensures { (next : _) → IfOk result (λ actions.
+        actions ≡ ingress_actions_of None (option_map (hop_over net.now next) hop)) }
 {
-    let Some(wire) = hop else {
+    let Some(link) = hop else {
         return Actions::from_slice(alloc, &[]);
     };
-    let output = Action::Output(Out::Port(wire.out_port));
-    if is_host(net, wire.to) {
+    let output = Action::Output(Out::Port(link.out_port));
+    if is_host(net, link.to) {
         Actions::from_slice(alloc, &[output])
     } else {
         Actions::from_slice(alloc, &[Action::SetVlan(TAG), output])
@@ -121,18 +128,19 @@ fn ingress_actions(alloc: Global, net: &Topology, hop: Option<Wire>) -> Result<A
 pub fn cell_rule(
     alloc: Global,
     net: &Topology,
-    source: &Station,
-    dest: &Station,
-    hop: Option<Wire>,
+    source: &AttachedHost,
+    dest: &AttachedHost,
+    hop: Option<DirectedLink>,
 ) -> Result<Rule, OutOfMemory>
-    ensures { (next : _) → next dest.now.loc source.now.wire.to ≡ hop → IfOk result (λ rule. rule ≡ cell_rule_of (entry_between net.now next source.now dest.now)) }
+    ensures { (next : _) → next dest.now.loc source.now.link.to ≡ hop →
+        IfOk result (λ rule. rule ≡ cell_rule_of (entry_between net.now next source.now dest.now)) }
 {
     let actions = ingress_actions(alloc, net, hop)?;
     Ok(Rule {
-        loc: source.wire.to,
+        loc: source.link.to,
         priority: 20,
         fits: Match {
-            in_port: Some(source.wire.in_port),
+            in_port: Some(source.link.in_port),
             dl_src: Some(source.address.eth),
             dl_dst: Some(dest.address.eth),
             dl_vlan: Some(Vlan::Untagged),

@@ -1,4 +1,4 @@
-// The whole configuration of a network.
+//! The whole configuration of a network.
 ghost use Rattle.std.specs.Prelude.{[], ◌<◌, length, All, IfOk};
 ghost use Rattle.merlin_model.specs.Headline.{DeliversPackets};
 ghost use Rattle.merlin_model.specs.Tests.{HasNoMiddlebox};
@@ -17,7 +17,8 @@ use topology::Topology;
 pub fn configuration_of(alloc: Global, net: &Topology) -> Result<Config, OutOfMemory>
     requires { HasNoMiddlebox net.now }
     ensures config { IfOk result (IsPlainConfig net.now) }
-    ensures stand { IfOk result (λ config. All (λ rule. rule.loc < length net.now.locations) config.rules) }
+    ensures stand { IfOk result (λ config.
+        All (λ rule. rule.loc < length net.now.locations) config.rules) }
     ensures delivers { IfOk result (DeliversPackets net.now any_path_policy [] []) }
 {
     rules_model::laws::plain_rules_deliver();

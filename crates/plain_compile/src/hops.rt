@@ -1,46 +1,48 @@
-// The next hops towards a host, by the levels of the switches.
+//! The next hops towards a host, by the levels of the switches.
 ghost use Rattle.std.specs.Prelude.{◌≡◌, ◌<◌, ℕ, length, IfOk, IsTrue, IfSome, ◌↔◌};
 ghost use Rattle.plain_compile.specs.Levels.{AreWithin};
 ghost use Rattle.plain_compile.specs.Hops.{IsDown, hop_of, IsHopBy};
 
 use merlin_model::OutOfMemory;
-use merlin_model::network::Wire;
+use merlin_model::network::DirectedLink;
 use std::alloc::Global;
 
-// Whether the wire leads one level down.
-fn leads_down(wire: &Wire, levels: &[Option<usize>]) -> bool
-    requires from { wire.now.from < length levels.now }
-    requires to { wire.now.to < length levels.now }
-    ensures { IsTrue result ↔ IsDown levels.now wire.now }
+// Whether the directed link leads one level down.
+fn leads_down(link: &DirectedLink, levels: &[Option<usize>]) -> bool
+    requires from { link.now.from < length levels.now }
+    requires to { link.now.to < length levels.now }
+    ensures { IsTrue result ↔ IsDown levels.now link.now }
 {
-    match (levels[wire.from], levels[wire.to]) {
+    match (levels[link.from], levels[link.to]) {
         (Some(here), Some(there)) => here.checked_sub(1) == Some(there),
         _ => false,
     }
 }
 
-// Whether the wire leads one level down, and to an earlier location than the best so far, if there is one.
-fn is_better(wire: &Wire, levels: &[Option<usize>], best: Option<Wire>) -> bool
-    requires from { wire.now.from < length levels.now }
-    requires to { wire.now.to < length levels.now }
-    ensures { IsTrue result ↔ (IsDown levels.now wire.now × IfSome best (λ b. wire.now.to < b.to)) }
+// Whether the directed link leads one level down, and to an earlier location than the best so far, if there is one.
+fn is_better(link: &DirectedLink, levels: &[Option<usize>], best: Option<DirectedLink>) -> bool
+    requires from { link.now.from < length levels.now }
+    requires to { link.now.to < length levels.now }
+    ensures { IsTrue result ↔ (IsDown levels.now link.now × IfSome best (λ b. link.now.to < b.to)) }
 {
-    leads_down(wire, levels) && best.is_none_or(|best| wire.to < best.to)
+    leads_down(link, levels) && best.is_none_or(|best| link.to < best.to)
 }
 
-/// By location the wire that leads one level down, to the first such location. None where there is no such wire.
+/// By location the directed link that leads one level down, to the first such location. None where there is no such directed link.
 pub fn hops_down(
     alloc: Global,
-    wires: &[Wire],
+    directed_links: &[DirectedLink],
     levels: &[Option<usize>],
-) -> Result<Vec<Option<Wire>>, OutOfMemory>
-    requires within { AreWithin wires.now (length levels.now) }
-    ensures { IfOk result (λ hops. (length hops.items ≡ length levels.now) × ((v : ℕ) → v < length levels.now → IsHopBy wires.now levels.now v (hop_of hops.items v))) }
+) -> Result<Vec<Option<DirectedLink>>, OutOfMemory>
+    requires within { AreWithin directed_links.now (length levels.now) }
+    ensures { IfOk result (λ hops. (length hops.items ≡ length levels.now)
+        × ((v : ℕ) → v < length levels.now →
+        IsHopBy directed_links.now levels.now v (hop_of hops.items v))) }
 {
     let mut hops = vec![in alloc; None; levels.len()]?;
-    for wire in wires {
-        if is_better(wire, levels, hops[wire.from]) {
-            hops[wire.from] = Some(*wire);
+    for link in directed_links {
+        if is_better(link, levels, hops[link.from]) {
+            hops[link.from] = Some(*link);
         }
     }
     Ok(hops)

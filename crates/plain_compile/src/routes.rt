@@ -1,66 +1,73 @@
-// The routes of a network: at each switch the wire that a frame takes towards each host.
+//! The routes of a network: at each switch the directed link that a frame takes towards each host.
 ghost use Rattle.std.specs.Prelude.{◌≡◌, ◌<◌, ℕ, IfOk, length};
 ghost use Rattle.merlin_model.specs.Networks.{IsNetwork, IsHost, IsSwitch};
 ghost use Rattle.merlin_model.specs.Tests.{HasNoMiddlebox};
 ghost use Rattle.rules_model.specs.Plain.{IsNextHop, IsRouting};
 ghost use Rattle.plain_compile.specs.Hops.{hop_of};
-ghost use Rattle.plain_compile.specs.Routes.{IsGroundOf, next_in};
+ghost use Rattle.plain_compile.specs.Routes.{IsGraphOf, next_in};
 
 use crate::hops::hops_down;
 use crate::levels::levels_from;
 use merlin_model::OutOfMemory;
-use merlin_model::network::Wire;
+use merlin_model::network::DirectedLink;
 use std::alloc::Global;
-use topology::{Place, Topology, wires_of};
+use topology::{Place, Topology, directed_links_of};
 
-/// What a search goes over: the wires of a network, and whether each location is a switch.
+/// What a search goes over: the directed links of a network, and whether each location is a switch.
 #[derive(Drop)]
-pub struct Ground {
-    pub wires: Vec<Wire>,
+pub struct Graph {
+    pub directed_links: Vec<DirectedLink>,
     pub switches: Vec<bool>,
 }
 
 // The ground of a network.
-fn ground_of(alloc: Global, net: &Topology) -> Result<Ground, OutOfMemory>
-    ensures { IfOk result (IsGroundOf net.now) }
+fn graph_of(alloc: Global, net: &Topology) -> Result<Graph, OutOfMemory>
+    ensures { IfOk result (IsGraphOf net.now) }
 {
-    let wires = wires_of(alloc, net.links())?;
+    let directed_links = directed_links_of(alloc, net.links())?;
     let mut switches = Vec::new(alloc);
     for loc in 0..net.locations() {
         switches.push(net.place(loc) == Place::Switch)?;
     }
-    Ok(Ground { wires, switches })
+    Ok(Graph {
+        directed_links,
+        switches,
+    })
 }
 
 // The next hops towards one host, by location.
 fn hops_towards(
     alloc: Global,
     net: &Topology,
-    ground: &Ground,
+    graph: &Graph,
     host: usize,
-) -> Result<Vec<Option<Wire>>, OutOfMemory>
+) -> Result<Vec<Option<DirectedLink>>, OutOfMemory>
     requires lawful { IsNetwork net.now }
     requires plain { HasNoMiddlebox net.now }
-    requires ground { IsGroundOf net.now ground.now }
+    requires graph { IsGraphOf net.now graph.now }
     requires host { IsHost net.now host }
-    ensures { IfOk result (λ hops. (v : ℕ) → IsSwitch net.now v → IsNextHop net.now host v (hop_of hops.items v)) }
+    ensures { IfOk result (λ hops. (v : ℕ) → IsSwitch net.now v →
+        IsNextHop net.now host v (hop_of hops.items v)) }
 {
     rules_model::laws::levels_route();
-    let levels = levels_from(alloc, &ground.wires, &ground.switches, host)?;
-    hops_down(alloc, &ground.wires, &levels)
+    let levels = levels_from(alloc, &graph.directed_links, &graph.switches, host)?;
+    hops_down(alloc, &graph.directed_links, &levels)
 }
 
-/// By host and by location, the wire that a frame for the host takes there: one link nearer, to the first such location.
+/// By host and by location, the directed link that a frame for the host takes there: one link nearer, to the first such location.
 /// None at a switch where there is no way.
-pub fn routes_of(alloc: Global, net: &Topology) -> Result<Vec<Vec<Option<Wire>>>, OutOfMemory>
+pub fn routes_of(
+    alloc: Global,
+    net: &Topology,
+) -> Result<Vec<Vec<Option<DirectedLink>>>, OutOfMemory>
     requires plain { HasNoMiddlebox net.now }
     ensures { IfOk result (λ routes. IsRouting net.now (next_in routes.items)) }
 {
-    let ground = ground_of(alloc, net)?;
+    let graph = graph_of(alloc, net)?;
     let mut routes = Vec::new(alloc);
     for loc in 0..net.locations() {
         let hops = match net.host(loc) {
-            Some(_) => hops_towards(alloc, net, &ground, loc)?,
+            Some(_) => hops_towards(alloc, net, &graph, loc)?,
             None => Vec::new(alloc),
         };
         routes.push(hops)?;

@@ -1,68 +1,72 @@
-// The tables of the policy that allows every way, switch by switch.
+//! The tables of the policy that allows every way, switch by switch.
 ghost use Rattle.std.specs.Prelude.{◌≡◌, ◌<◌, ◌++◌, ◌==◌, [], ℕ, map, find, length, Option, OnOk, IfOk, if◌then◌else◌};
 ghost use Rattle.std.specs.List.{flat_map};
-ghost use Rattle.merlin_model.specs.declared.network.Wire.{Wire};
-ghost use Rattle.merlin_model.specs.Networks.{wires as wires_of_net};
+ghost use Rattle.merlin_model.specs.declared.network.DirectedLink.{DirectedLink};
+ghost use Rattle.merlin_model.specs.Networks.{directed_links as directed_links_of_net};
 ghost use Rattle.rules_model.specs.Tables.{rules_of_row, cell_rule as cell_rule_of};
-ghost use Rattle.rules_model.specs.Plain.{stations, station_at, row_over, entries_from, entries_at, plain_rules_at, plain_rules};
+ghost use Rattle.rules_model.specs.Plain.{attached_hosts, attached_host_at, row_over, entries_from, entries_at, plain_rules_at, plain_rules};
 ghost use Rattle.plain_compile.specs.Routes.{next_in};
 ghost use Rattle.plain_compile.specs.Tables.{targets_of};
 
 use crate::cells::{back_rule, cell_rule, is_host, is_switch, last_rule, tag_rule};
 use merlin_model::OutOfMemory;
 use merlin_model::config::Rule;
-use merlin_model::network::Wire;
-use rules_model::station::Station;
+use merlin_model::network::DirectedLink;
+use rules_model::attached_host::AttachedHost;
 use sqlite_items::Items;
 use std::alloc::Global;
-use topology::{Topology, wires_of};
+use topology::{Topology, directed_links_of};
 
-/// A host, and the wire that leads towards it.
+/// A host, and the directed link that leads towards it.
 #[derive(Clone, Copy)]
 pub struct Target {
-    pub host: Station,
-    pub wire: Wire,
+    pub host: AttachedHost,
+    pub link: DirectedLink,
 }
 
-// The wire of a host.
-fn wire_from(wires: &[Wire], loc: usize) -> Option<Wire>
-    ensures { result ≡ find (λ wire. wire.from == loc) wires.now }
+// The directed link of a host.
+fn link_from(directed_links: &[DirectedLink], loc: usize) -> Option<DirectedLink>
+    ensures { result ≡ find (λ link. link.from == loc) directed_links.now }
 {
-    for wire in wires {
-        if wire.from == loc {
-            return Some(*wire);
+    for link in directed_links {
+        if link.from == loc {
+            return Some(*link);
         }
     }
     None
 }
 
-// The host at a location, with its wire.
-fn station(net: &Topology, wires: &[Wire], loc: usize) -> Option<Station>
-    requires wires { wires.now ≡ wires_of_net net.now }
+// The host at a location, with its directed link.
+fn attached_host(
+    net: &Topology,
+    directed_links: &[DirectedLink],
+    loc: usize,
+) -> Option<AttachedHost>
+    requires directed_links { directed_links.now ≡ directed_links_of_net net.now }
     requires within { loc < length net.now.locations }
-    ensures { result ≡ station_at net.now loc }
+    ensures { result ≡ attached_host_at net.now loc }
 {
     let address = net.host(loc)?;
-    let wire = wire_from(wires, loc)?;
-    Some(Station { loc, address, wire })
+    let link = link_from(directed_links, loc)?;
+    Some(AttachedHost { loc, address, link })
 }
 
-// All hosts with their wires.
-fn stations_of(alloc: Global, net: &Topology) -> Result<Vec<Station>, OutOfMemory>
-    ensures { IfOk result (λ found. found.items ≡ stations net.now) }
+// All hosts with their directed links.
+fn attached_hosts_of(alloc: Global, net: &Topology) -> Result<Vec<AttachedHost>, OutOfMemory>
+    ensures { IfOk result (λ found. found.items ≡ attached_hosts net.now) }
 {
-    let wires = wires_of(alloc, net.links())?;
+    let directed_links = directed_links_of(alloc, net.links())?;
     let mut found = Vec::new(alloc);
     for loc in 0..net.locations() {
-        if let Some(station) = station(net, &wires, loc) {
-            found.push(station)?;
+        if let Some(attached_host) = attached_host(net, &directed_links, loc) {
+            found.push(attached_host)?;
         }
     }
     Ok(found)
 }
 
 // The next hop at location `loc` towards a host.
-fn next_hop(routes: &[Vec<Option<Wire>>], host: usize, loc: usize) -> Option<Wire>
+fn next_hop(routes: &[Vec<Option<DirectedLink>>], host: usize, loc: usize) -> Option<DirectedLink>
     ensures { result ≡ next_in routes.now host loc }
 {
     *routes.get(host)?.get(loc)?
@@ -71,16 +75,16 @@ fn next_hop(routes: &[Vec<Option<Wire>>], host: usize, loc: usize) -> Option<Wir
 // The hosts that a location leads to.
 fn targets(
     alloc: Global,
-    routes: &[Vec<Option<Wire>>],
-    hosts: &[Station],
+    routes: &[Vec<Option<DirectedLink>>],
+    hosts: &[AttachedHost],
     loc: usize,
 ) -> Result<Vec<Target>, OutOfMemory>
     ensures { IfOk result (λ found. found.items ≡ targets_of (next_in routes.now) hosts.now loc) }
 {
     let mut found = Vec::new(alloc);
     for host in hosts {
-        if let Some(wire) = next_hop(routes, host.loc, loc) {
-            found.push(Target { host: *host, wire })?;
+        if let Some(link) = next_hop(routes, host.loc, loc) {
+            found.push(Target { host: *host, link })?;
         }
     }
     Ok(found)
@@ -94,12 +98,14 @@ fn push_tagged(
     target: &Target,
     rules: &mut Items<Rule>,
 ) -> Result<(), OutOfMemory>
-    ensures { (next : ℕ → ℕ → Option Wire) → OnOk result (rules.new ≡ rules.old ++ rules_of_row (row_over net.now next loc target.now.host target.now.wire)) }
+    ensures { (next : ℕ → ℕ → Option DirectedLink) →
+        OnOk result (rules.new ≡ rules.old
+        ++ rules_of_row (row_over net.now next loc target.now.host target.now.link)) }
 {
-    if !is_host(net, target.wire.to) {
-        rules.push(back_rule(alloc, net, loc, &target.host, target.wire)?)?;
+    if !is_host(net, target.link.to) {
+        rules.push(back_rule(alloc, net, loc, &target.host, target.link)?)?;
     }
-    rules.push(tag_rule(alloc, net, loc, &target.host, target.wire)?)?;
+    rules.push(tag_rule(alloc, net, loc, &target.host, target.link)?)?;
     Ok(())
 }
 
@@ -111,7 +117,10 @@ fn push_all_tagged(
     targets: &[Target],
     rules: &mut Items<Rule>,
 ) -> Result<(), OutOfMemory>
-    ensures { (next : ℕ → ℕ → Option Wire) → OnOk result (rules.new ≡ rules.old ++ flat_map (λ t. rules_of_row (row_over net.now next loc t.host t.wire)) (if length targets.now == 1 then [] else targets.now)) }
+    ensures { (next : ℕ → ℕ → Option DirectedLink) →
+        OnOk result (rules.new ≡ rules.old
+        ++ flat_map (λ t. rules_of_row (row_over net.now next loc t.host t.link))
+        (if length targets.now == 1 then [] else targets.now)) }
 {
     if targets.len() == 1 {
         return Ok(());
@@ -126,17 +135,18 @@ fn push_all_tagged(
 fn push_cells_of(
     alloc: Global,
     net: &Topology,
-    routes: &[Vec<Option<Wire>>],
-    hosts: &[Station],
-    source: &Station,
+    routes: &[Vec<Option<DirectedLink>>],
+    hosts: &[AttachedHost],
+    source: &AttachedHost,
     rules: &mut Items<Rule>,
 ) -> Result<(), OutOfMemory>
-    requires { hosts.now ≡ stations net.now }
-    ensures { OnOk result (rules.new ≡ rules.old ++ map cell_rule_of (entries_from net.now (next_in routes.now) source.now)) }
+    requires { hosts.now ≡ attached_hosts net.now }
+    ensures { OnOk result (rules.new ≡ rules.old
+        ++ map cell_rule_of (entries_from net.now (next_in routes.now) source.now)) }
 {
     for dest in hosts {
         if dest.loc != source.loc {
-            let hop = next_hop(routes, dest.loc, source.wire.to);
+            let hop = next_hop(routes, dest.loc, source.link.to);
             rules.push(cell_rule(alloc, net, source, dest, hop)?)?;
         }
     }
@@ -147,16 +157,17 @@ fn push_cells_of(
 fn push_cells(
     alloc: Global,
     net: &Topology,
-    routes: &[Vec<Option<Wire>>],
-    hosts: &[Station],
+    routes: &[Vec<Option<DirectedLink>>],
+    hosts: &[AttachedHost],
     loc: usize,
     rules: &mut Items<Rule>,
 ) -> Result<(), OutOfMemory>
-    requires { hosts.now ≡ stations net.now }
-    ensures { OnOk result (rules.new ≡ rules.old ++ map cell_rule_of (entries_at net.now (next_in routes.now) loc)) }
+    requires { hosts.now ≡ attached_hosts net.now }
+    ensures { OnOk result (rules.new ≡ rules.old
+        ++ map cell_rule_of (entries_at net.now (next_in routes.now) loc)) }
 {
     for source in hosts {
-        if source.wire.to == loc {
+        if source.link.to == loc {
             push_cells_of(alloc, net, routes, hosts, source, rules)?;
         }
     }
@@ -167,13 +178,14 @@ fn push_cells(
 fn push_switch(
     alloc: Global,
     net: &Topology,
-    routes: &[Vec<Option<Wire>>],
-    hosts: &[Station],
+    routes: &[Vec<Option<DirectedLink>>],
+    hosts: &[AttachedHost],
     loc: usize,
     rules: &mut Items<Rule>,
 ) -> Result<(), OutOfMemory>
-    requires { hosts.now ≡ stations net.now }
-    ensures { OnOk result (rules.new ≡ rules.old ++ plain_rules_at net.now (next_in routes.now) loc) }
+    requires { hosts.now ≡ attached_hosts net.now }
+    ensures { OnOk result (rules.new ≡ rules.old
+        ++ plain_rules_at net.now (next_in routes.now) loc) }
 {
     let targets = targets(alloc, routes, hosts, loc)?;
     push_all_tagged(alloc, net, loc, &targets, rules)?;
@@ -186,11 +198,11 @@ fn push_switch(
 pub fn rules_of(
     alloc: Global,
     net: &Topology,
-    routes: &[Vec<Option<Wire>>],
+    routes: &[Vec<Option<DirectedLink>>],
 ) -> Result<Items<Rule>, OutOfMemory>
     ensures { IfOk result (λ rules. rules ≡ plain_rules net.now (next_in routes.now)) }
 {
-    let hosts = stations_of(alloc, net)?;
+    let hosts = attached_hosts_of(alloc, net)?;
     let mut rules = Items::new(alloc);
     for loc in 0..net.locations() {
         if is_switch(net, loc) {

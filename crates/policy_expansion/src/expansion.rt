@@ -43,7 +43,10 @@ fn lawful_statements(
     items: Items<Item>,
     default_path: &Option<RawPath>,
 ) -> Result<Written, ExpansionFault>
-    ensures ok { IfOk result (λ whole. (fault_of (listed sets.now items default_path.now) ≡ None) × Adds (record { statements = []; terms = [] }) whole (statements_of (listed sets.now items default_path.now))) }
+    ensures ok { IfOk result (λ whole.
+        (fault_of (listed sets.now items default_path.now) ≡ None) ×
+        Adds (record { statements = []; terms = [] }) whole
+        (statements_of (listed sets.now items default_path.now))) }
     ensures err { IfErr result (IsFault (fault_of (listed sets.now items default_path.now))) }
 {
     let known = sets_of(alloc, sets)?;

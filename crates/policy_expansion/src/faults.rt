@@ -1,9 +1,10 @@
 //! Why there is no policy, asked of one kind of fault after another.
-ghost use Rattle.std.specs.Prelude.{◌≡◌, ◌+◌, ◌<◌, ◌&&◌, not, length, map, flat_map, find, IfErr, IfSome, IfNone, OnOk, None, is_some};
+ghost use Rattle.std.specs.Prelude.{◌≡◌, ◌≢◌, ◌+◌, ◌<◌, ◌&&◌, not, length, map, flat_map, find, IfErr, IfSome, IfNone, OnOk, None, is_some};
 ghost use Rattle.std.specs.List.{list_any};
 ghost use Rattle.std.specs.Option.{option_copied};
 ghost use Rattle.policy_expansion.specs.WrittenOut.{written_out};
 ghost use Rattle.policy_expansion.specs.Faults.{is_mac as is_ethernet, mixed_set, is_unknown, names_in, unknown_set, count_of_default, too_many, duplicate_id, IsFault};
+ghost use Rattle.policy_expansion.specs.declared.policy.ExpansionFault.TheVariants.{OutOfMemory};
 ghost use Rattle.policy_expansion.specs.Tables.{under};
 
 use crate::pairs::room_after_pairs;
@@ -87,7 +88,8 @@ pub(crate) fn ask_names(
 
 // What the statements of an item leave of some room. None where they do not fit.
 fn room_after(sets: &Sets<'_>, item: &Item, room: usize) -> Option<usize>
-    ensures some { IfSome result (λ left. left + length (written_out (under sets.now) item.now) ≡ room) }
+    ensures some { IfSome result (λ left.
+        left + length (written_out (under sets.now) item.now) ≡ room) }
     ensures none { IfNone result (room < length (written_out (under sets.now) item.now)) }
 {
     match item {
@@ -104,8 +106,13 @@ pub(crate) fn ask_count(
     items: &[Item],
     default_path: &Option<RawPath>,
 ) -> Result<(), ExpansionFault>
-    ensures ok { OnOk result (too_many (length (flat_map (written_out (under sets.now)) items.now) + count_of_default default_path.now) ≡ None) }
-    ensures err { IfErr result (IsFault (too_many (length (flat_map (written_out (under sets.now)) items.now) + count_of_default default_path.now))) }
+    ensures ok { OnOk result (too_many
+        (length (flat_map (written_out (under sets.now)) items.now)
+        + count_of_default default_path.now) ≡ None) }
+    ensures err { IfErr result (IsFault (too_many
+        (length (flat_map (written_out (under sets.now)) items.now)
+        + count_of_default default_path.now))) }
+    ensures no_memory { IfErr result (λ fault. fault ≢ OutOfMemory) }
 {
     let mut room = MAX_STATEMENTS - usize::from(default_path.is_some());
     for item in items {

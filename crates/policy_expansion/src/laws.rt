@@ -16,7 +16,10 @@ ghost use Rattle.policy_expansion.specs.Expansion.{expansion};
 /// a packet exactly where the packet goes from the first to the second address of the pair at that place and the written
 /// predicate holds of it.
 pub fn statement_of_a_pair()
-    ensures { (known : List ℕ → Option (List Literal)) (outer inner : List ℕ) (s : WrittenStatement) (place : ℕ) (t : WrittenStatement) → slice_get (written_out known (ForEach outer inner s)) place ≡ Some t → IsForPair known outer inner s place t }
+    ensures { (known : List ℕ → Option (List Literal)) (outer inner : List ℕ)
+        (s : WrittenStatement) (place : ℕ) (t : WrittenStatement) →
+        slice_get (written_out known (ForEach outer inner s)) place ≡ Some t →
+        IsForPair known outer inner s place t }
 {}
 
 /// A policy that a written one stands for has at most 4,096 statements with the default, and their ids differ.
@@ -26,7 +29,8 @@ pub fn expanded_policy()
 
 /// Values that are in their ranges in a policy as it is written are so in the one that it stands for: addresses, predicates and rates.
 pub fn well_formed_policy()
-    ensures { (w : WrittenPolicy) (policy : Policy) → IsWellWritten w → expansion w ≡ Ok policy → IsWellFormed policy }
+    ensures { (w : WrittenPolicy) (policy : Policy) → IsWellWritten w → expansion w ≡ Ok policy →
+        IsWellFormed policy }
 {}
 
 /// Worked examples.

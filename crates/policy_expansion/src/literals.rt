@@ -30,7 +30,8 @@ impl Seen {
     // Whether the literal was not met before.
     fn insert(&mut self, literal: Literal) -> Result<bool, OutOfMemory>
         ensures is_new { IfOk result (λ is_new. is_new ≡ not (has_seen self.old literal)) }
-        ensures now { IfOk result (λ _. (other : Literal) → has_seen self.new other ≡ (has_seen self.old other || not (unlike literal other))) }
+        ensures now { IfOk result (λ _. (other : Literal) → has_seen self.new other
+            ≡ (has_seen self.old other || not (unlike literal other))) }
     {
         Ok(match literal {
             Literal::Mac(mac) => self.macs.insert(mac)?,

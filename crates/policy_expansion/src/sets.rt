@@ -19,7 +19,8 @@ pub(crate) fn sets_of<'a>(
     alloc: Global,
     written: &'a [WrittenSet],
 ) -> Result<Sets<'a>, ExpansionFault>
-    ensures ok { IfOk result (λ sets. AreSetsOf written.now sets × (duplicate_set written.now ≡ None)) }
+    ensures ok { IfOk result (λ sets. AreSetsOf written.now sets ×
+        (duplicate_set written.now ≡ None)) }
     ensures err { IfErr result (IsFault (duplicate_set written.now)) }
 {
     let mut sets = BTreeMap::new(alloc);

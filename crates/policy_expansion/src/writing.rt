@@ -142,7 +142,8 @@ impl Written {
         pairs: &[(Literal, Literal)],
         statement: &WrittenStatement,
     ) -> Result<(), OutOfMemory>
-        ensures { OnOk result (Adds self.old self.new (map (for_pair statement.now) (enumerate_from 1 pairs.now))) }
+        ensures { OnOk result (Adds self.old self.new
+            (map (for_pair statement.now) (enumerate_from 1 pairs.now))) }
     {
         for (place, pair) in pairs.iter().enumerate() {
             let statement = statement_of(alloc, statement, place + 1, *pair)?;
@@ -186,7 +187,9 @@ pub(crate) fn write_out(
     sets: &Sets<'_>,
     items: Items<Item>,
 ) -> Result<Written, OutOfMemory>
-    ensures { IfOk result (λ written. Adds (record { statements = []; terms = [] }) written (flat_map (written_out (under sets.now)) items)) }
+    ensures { IfOk result (λ written.
+        Adds (record { statements = []; terms = [] }) written
+        (flat_map (written_out (under sets.now)) items)) }
 {
     let mut written = Written {
         statements: Items::new(alloc),

@@ -3,3 +3,4 @@ pub mod Predicates
 pub mod PathTexts
 pub mod Grammar
 pub mod Machine
+pub mod NumberedPaths

@@ -1,14 +1,16 @@
 -- Which lexemes are a predicate, and which predicate that is.
-use Rattle.std.specs.Prelude.{if◌then◌else◌, ℕ, ◌≡◌, ◌+◌, ◌≤◌, max, codes, ◌&&◌, List, [], ◌∷◌, ◌++◌, Option, Some, None, nat_le}
+use Rattle.std.specs.Prelude.{if◌then◌else◌, ℕ, ◌≡◌, ◌+◌, ◌-◌, ◌*◌, ◌^◌, ◌≤◌, max, codes, ◌&&◌, List, [], ◌∷◌, ◌++◌, Option, Some, None, nat_le, nat_lt}
+use Rattle.merlin_model.specs.declared.policy.Field.{Field}
 use Rattle.merlin_model.specs.declared.policy.Field.TheVariants.{EthSrc, EthDst, IpSrc, IpDst, Proto, Sport, Dport}
 use Rattle.merlin_model.specs.declared.policy.Test.{Test}
-use Rattle.merlin_model.specs.declared.policy.Test.TheVariants.{Is, Port}
+use Rattle.merlin_model.specs.declared.policy.Test.TheVariants.{Is, Port, Within}
 use Rattle.merlin_model.specs.declared.policy.Pred.{Pred, Yes, No, Test as Tests, All, AnyOf, Not}
+use Rattle.merlin_model.specs.Predicates.{first_bits}
 use Rattle.merlin_text.specs.declared.token.Word.TheVariants as words
 use Rattle.merlin_text.specs.declared.token.Sign.TheVariants as signs
 use Rattle.policy_grammar.specs.declared.written.Tested.{Tested}
 use Rattle.policy_grammar.specs.declared.written.Tested.TheVariants as tested
-use Rattle.policy_grammar.specs.Lexemes.{Lexeme, name, word, sign, number, mac, ip}
+use Rattle.policy_grammar.specs.Lexemes.{Lexeme, name, word, sign, number, mac, ip, prefix}
 
 -- the two names of a field
 abbrev pub first_of : Tested → List ℕ
@@ -33,12 +35,18 @@ second_of tested.TcpDst = codes "dst"
 second_of tested.UdpSrc = codes "src"
 second_of tested.UdpDst = codes "dst"
 
+-- The test of a block of addresses: its bits past the length are taken as 0, and a block of one address is that address.
+abbrev pub block_test : Field → ℕ → ℕ → Test
+block_test field value bits = if nat_lt bits 32 then Within field (first_bits bits value * 2 ^ (32 - bits)) bits else Is field value
+
 -- the test of a field with a value, where the field takes that lexeme
 abbrev pub test_of : Tested → Lexeme → Option Test
 test_of tested.EthSrc (mac n) = Some (Is EthSrc n)
 test_of tested.EthDst (mac n) = Some (Is EthDst n)
 test_of tested.IpSrc (ip n) = Some (Is IpSrc n)
 test_of tested.IpDst (ip n) = Some (Is IpDst n)
+test_of tested.IpSrc (prefix value bits) = Some (block_test IpSrc value bits)
+test_of tested.IpDst (prefix value bits) = Some (block_test IpDst value bits)
 test_of tested.IpProto (number n) = if nat_le 1 n && nat_le n 255 then Some (Is Proto n) else None
 test_of tested.TcpSrc (number n) = if nat_le n 65535 then Some (Port 6 Sport n) else None
 test_of tested.TcpDst (number n) = if nat_le n 65535 then Some (Port 6 Dport n) else None

@@ -24,6 +24,7 @@ spelled text (kinds.Number n) s some within p = (slice_range text s.start s.end,
 spelled text (kinds.Rate n) s some within p = (slice_range text s.start s.end, p)
 spelled text (kinds.Mac n) s some within p = (slice_range text s.start s.end, p)
 spelled text (kinds.Ip n) s some within p = (slice_range text s.start s.end, p)
+spelled text (kinds.Prefix v n) s some within p = (slice_range text s.start s.end, p)
 spelled text (kinds.Sign g) s some within p = tt
 
 each_spelled : (text : List ℕ) (from : ℕ) (ts : List Token) → AreSlices text from ts → AllByRecursion IsSpelled (lexemes text ts)

@@ -1,5 +1,7 @@
 -- Which policy a text stands for, and why a text stands for none.
-use Rattle.std.specs.Prelude.{ℕ, ◌≡◌, ◌⊎◌, ⊤, List, length, slice_get, Result, Ok, Err}
+use Rattle.std.specs.Prelude.{ℕ, ◌≡◌, ◌≢◌, ◌⊎◌, ⊤, List, [], length, slice_get, None, Result, Ok, Err}
+use Rattle.merlin_model.specs.declared.policy.Term.{Term}
+use Rattle.merlin_model.specs.Rates.{ids_of}
 use Rattle.std.specs.Option.{option_map_or}
 use Rattle.merlin_text.specs.declared.token.Token.{Token}
 use Rattle.merlin_text.specs.declared.token.TokenFault.{TokenFault}
@@ -12,6 +14,7 @@ use Rattle.policy_expansion.specs.declared.policy.Policy.{Policy}
 use Rattle.policy_expansion.specs.declared.policy.ExpansionFault.{ExpansionFault}
 use Rattle.policy_expansion.specs.declared.policy.ExpansionFault.TheVariants as expansion_faults
 use Rattle.policy_expansion.specs.Expansion.{expansion}
+use Rattle.policy_expansion.specs.Kept.{IsExpanded, IsWellFormed}
 use Rattle.policy_parser.specs.declared.fault.PolicyFault.{PolicyFault}
 use Rattle.policy_parser.specs.declared.fault.PolicyFault.TheVariants.{BadByte, BadNumber, Syntax, DuplicateSet, MixedSet, UnknownSet, TooManyStatements, DuplicateId, OutOfMemory}
 
@@ -26,6 +29,20 @@ pub record IsPolicyText (text : List ℕ) (policy : Policy) : Type 0 where
   pub written : WrittenPolicy
   pub text_of : IsWritten text written
   pub expanded : expansion written ≡ Ok policy
+
+-- What holds of each policy that a text stands for: at most 4,096 statements with the default, under ids that differ; each test with a
+-- value of its field; each term over some id, with rates to 1,000,000,000.
+pub record IsParsed (policy : Policy) : Type 0 where
+  pub expanded : IsExpanded policy
+  pub formed : IsWellFormed policy
+
+-- some id stands in the term
+abbrev pub HasId : Term → Type 0
+HasId term = ids_of term ≢ []
+
+-- the policy that is a formula alone
+abbrev pub formula_alone : List Term → Policy
+formula_alone terms = record { statements = []; default_path = None; formula = record { terms = terms } }
 
 -- the byte at which a token starts, by its number; the length of the text past the last one
 abbrev pub place_of : List ℕ → List Token → ℕ → ℕ

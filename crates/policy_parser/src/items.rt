@@ -1,14 +1,11 @@
 //! The items of the list.
 
-ghost use Rattle.std.specs.Prelude.{◌≡◌, ◌<◌, ℕ, List, [], ◌∷◌, IfOk, Option, None, Some, length};
+ghost use Rattle.std.specs.Prelude.{◌≡◌, ◌<◌, ℕ, List, [], ◌∷◌, IfOk, IfErr, Option, None, Some, length};
 ghost use Rattle.merlin_model.specs.declared.policy.Pred.{Pred};
-ghost use Rattle.merlin_text.specs.declared.token.Sign.TheVariants as signs;
-ghost use Rattle.merlin_text.specs.declared.token.Word.TheVariants as words;
 ghost use Rattle.policy_grammar.specs.declared.written.RawPath.{RawPath};
 ghost use Rattle.policy_grammar.specs.declared.written.WrittenSet.{WrittenSet};
-ghost use Rattle.policy_grammar.specs.Lexemes.{lexemes};
-ghost use Rattle.policy_grammar.specs.Machine.{Awaited, Head, Heading, Opened, this_sign, this_word, any_name, rep, reps, alts, whole_path, statement_path, default_path as default_awaited, limit as limit_awaited, limit_rest, with_limit, outer_set, each_id, item, formula, heading_of, listed, closed, with_item, item_from, run, at};
-ghost use Rattle.policy_parser.specs.Goes.{Goes, opened, ended, after_entry, policy_of, statement_awaited};
+ghost use Rattle.policy_grammar.specs.Machine.{Awaited, Head, Heading, Opened, whole_path, statement_path, limit as limit_awaited, limit_rest, with_limit, item, formula, heading_of, closed, with_item, item_from, at};
+ghost use Rattle.policy_parser.specs.Goes.{Reads, IsSyntax, opened, ended, after_entry, policy_of, statement_awaited, path_awaited, variables_awaited, cross_awaited, each_id_awaited, default_awaited, first_item};
 
 use crate::fault::ReadError;
 use crate::paths::path_of;
@@ -53,8 +50,10 @@ pub enum Entry {
 /// A limit, and what follows it.
 fn limit_at<'a>(tokens: Cursor<'a>) -> Result<(Limit, Cursor<'a>), ReadError>
     ensures goes { (bytes : List ℕ) (o : Opened) →
-        Goes result (λ r. run (lexemes bytes r.1) (at (limit_rest (with_limit o r.0.bound r.0.rate) ∷ []) 0)) (run (lexemes bytes tokens.entry) (at (limit_awaited o ∷ []) 0)) }
+        Reads bytes tokens.entry result (at (limit_awaited o ∷ []) 0)
+        (λ r. r.1) (λ r. at (limit_rest (with_limit o r.0.bound r.0.rate) ∷ []) 0) }
     ensures shorter { IfOk result (λ r. length r.1 < length tokens.entry) }
+    ensures no_memory { IfErr result IsSyntax }
 {
     let (bound, rest) = bound_at(tokens)?;
     let rest = sign_at(Sign::OpenGroup, rest)?;
@@ -69,7 +68,8 @@ fn limits<'a>(
     tokens: Cursor<'a>,
 ) -> Result<(Items<Limit>, End, Cursor<'a>), ReadError>
     ensures goes { (bytes : List ℕ) (h : Heading) (pred : Pred) (path : RawPath) →
-        Goes result (λ r. run (lexemes bytes r.2) (ended r.1 (closed (opened h pred path r.0)))) (run (lexemes bytes tokens.entry) (at (limit_awaited (opened h pred path []) ∷ []) 0)) }
+        Reads bytes tokens.entry result (at (limit_awaited (opened h pred path []) ∷ []) 0)
+        (λ r. r.2) (λ r. ended r.1 (closed (opened h pred path r.0))) }
     ensures shorter { IfOk result (λ r. length r.2 < length tokens.entry) }
 {
     let mut limits = Items::new(alloc);
@@ -95,7 +95,8 @@ fn statement_end<'a>(
     tokens: Cursor<'a>,
 ) -> Result<(Items<Limit>, End, Cursor<'a>), ReadError>
     ensures goes { (bytes : List ℕ) (h : Heading) (pred : Pred) (path : RawPath) (n : ℕ) →
-        Goes result (λ r. run (lexemes bytes r.2) (ended r.1 (closed (opened h pred path r.0)))) (run (lexemes bytes tokens.entry) (at (whole_path path ∷ statement_path h pred ∷ []) n)) }
+        Reads bytes tokens.entry result (at (whole_path path ∷ statement_path h pred ∷ []) n)
+        (λ r. r.2) (λ r. ended r.1 (closed (opened h pred path r.0))) }
     ensures shorter { IfOk result (λ r. length r.2 < length tokens.entry) }
 {
     let Some((first, rest)) = tokens.split_first() else {
@@ -116,7 +117,8 @@ fn pred_part<'a>(
     tokens: Cursor<'a>,
 ) -> Result<(Pred, Cursor<'a>), ReadError>
     ensures goes { (h : Heading) →
-        Goes result (λ r. run (lexemes bytes.now r.1) (at (rep ∷ reps [] ∷ alts [] ∷ statement_path h r.0 ∷ []) 2048)) (run (lexemes bytes.now tokens.entry) (statement_awaited h)) }
+        Reads bytes.now tokens.entry result (statement_awaited h)
+        (λ r. r.1) (λ r. at (path_awaited (statement_path h r.0 ∷ [])) 2048) }
     ensures shorter { IfOk result (λ r. length r.1 < length tokens.entry) }
 {
     let rest = sign_at(Sign::Colon, tokens)?;
@@ -138,7 +140,8 @@ fn statement<'a>(
     tokens: Cursor<'a>,
 ) -> Result<(WrittenStatement, End, Cursor<'a>), ReadError>
     ensures goes { (h : Head) (pair : Option (List ℕ × List ℕ)) →
-        Goes result (λ r. run (lexemes bytes.now r.2) (ended r.1 (with_item h (item_from pair r.0)))) (run (lexemes bytes.now tokens.entry) (statement_awaited (heading_of h pair id))) }
+        Reads bytes.now tokens.entry result (statement_awaited (heading_of h pair id))
+        (λ r. r.2) (λ r. ended r.1 (with_item h (item_from pair r.0))) }
     ensures shorter { IfOk result (λ r. length r.2 < length tokens.entry) }
 {
     let (pred, rest) = pred_part(alloc, bytes, tokens)?;
@@ -164,7 +167,8 @@ fn plain<'a>(
     tokens: Cursor<'a>,
 ) -> Result<(Entry, Cursor<'a>), ReadError>
     ensures goes { (h : Head) →
-        Goes result (λ r. run (lexemes bytes.now r.1) (after_entry r.0 h)) (run (lexemes bytes.now tokens.entry) (statement_awaited (heading_of h None id.now))) }
+        Reads bytes.now tokens.entry result (statement_awaited (heading_of h None id.now))
+        (λ r. r.1) (λ r. after_entry r.0 h) }
     ensures shorter { IfOk result (λ r. length r.1 < length tokens.entry) }
 {
     let id = name_from(alloc, id)?;
@@ -175,8 +179,10 @@ fn plain<'a>(
 /// The two names after `foreach`, which stand for nothing else.
 fn variables<'a>(tokens: Cursor<'a>) -> Result<Cursor<'a>, ReadError>
     ensures goes { (bytes : List ℕ) (k : List Awaited) (n : ℕ) →
-        Goes result (λ r. run (lexemes bytes r) (at k n)) (run (lexemes bytes tokens.entry) (at (this_sign signs.OpenGroup ∷ any_name ∷ this_sign signs.Comma ∷ any_name ∷ this_sign signs.CloseGroup ∷ k) n)) }
+        Reads bytes tokens.entry result (at (variables_awaited k) n)
+        (λ r. r) (λ r. at k n) }
     ensures shorter { IfOk result (λ r. length r < length tokens.entry) }
+    ensures no_memory { IfErr result IsSyntax }
 {
     let rest = sign_at(Sign::OpenGroup, tokens)?;
     let rest = any_name_at(rest)?;
@@ -192,7 +198,8 @@ fn crossed<'a>(
     tokens: Cursor<'a>,
 ) -> Result<(Name, Name, Cursor<'a>), ReadError>
     ensures goes { (h : Head) →
-        Goes result (λ r. run (lexemes bytes.now r.2) (at (this_sign signs.CloseGroup ∷ this_sign signs.Colon ∷ each_id h r.0 r.1 ∷ []) 0)) (run (lexemes bytes.now tokens.entry) (at (this_word words.In ∷ this_word words.Cross ∷ this_sign signs.OpenGroup ∷ outer_set h ∷ []) 0)) }
+        Reads bytes.now tokens.entry result (at (cross_awaited h) 0)
+        (λ r. r.2) (λ r. at (each_id_awaited h r.0 r.1) 0) }
     ensures shorter { IfOk result (λ r. length r.2 < length tokens.entry) }
 {
     let rest = word_at(Word::In, tokens)?;
@@ -211,8 +218,8 @@ fn for_each<'a>(
     tokens: Cursor<'a>,
 ) -> Result<(Entry, Cursor<'a>), ReadError>
     ensures goes { (h : Head) →
-        Goes result (λ r. run (lexemes bytes.now r.1) (after_entry r.0 h)) (run (lexemes bytes.now tokens.entry)
-        (at (this_sign signs.OpenGroup ∷ any_name ∷ this_sign signs.Comma ∷ any_name ∷ this_sign signs.CloseGroup ∷ this_word words.In ∷ this_word words.Cross ∷ this_sign signs.OpenGroup ∷ outer_set h ∷ []) 0)) }
+        Reads bytes.now tokens.entry result (at (variables_awaited (cross_awaited h)) 0)
+        (λ r. r.1) (λ r. after_entry r.0 h) }
     ensures shorter { IfOk result (λ r. length r.1 < length tokens.entry) }
 {
     let rest = variables(tokens)?;
@@ -236,7 +243,8 @@ fn default_path<'a>(
     tokens: Cursor<'a>,
 ) -> Result<(Entry, Cursor<'a>), ReadError>
     ensures goes { (h : Head) →
-        Goes result (λ r. run (lexemes bytes.now r.1) (after_entry r.0 h)) (run (lexemes bytes.now tokens.entry) (at (this_sign signs.Arrow ∷ rep ∷ reps [] ∷ alts [] ∷ default_awaited h ∷ []) 2048)) }
+        Reads bytes.now tokens.entry result (at (default_awaited h) 2048)
+        (λ r. r.1) (λ r. after_entry r.0 h) }
     ensures shorter { IfOk result (λ r. length r.1 < length tokens.entry) }
 {
     let rest = sign_at(Sign::Arrow, tokens)?;
@@ -261,7 +269,8 @@ fn entry_of<'a>(
     tokens: Cursor<'a>,
 ) -> Result<(Entry, Cursor<'a>), ReadError>
     ensures goes { (h : Head) →
-        Goes result (λ r. run (lexemes bytes.now r.1) (after_entry r.0 h)) (run (lexemes bytes.now tokens.entry) (at (item h ∷ []) 0)) }
+        Reads bytes.now tokens.entry result (at (item h ∷ []) 0)
+        (λ r. r.1) (λ r. after_entry r.0 h) }
     ensures shorter { IfOk result (λ r. length r.1 < length tokens.entry) }
 {
     let Some((first, rest)) = tokens.split_first() else {
@@ -283,7 +292,8 @@ pub(crate) fn items<'a>(
     tokens: Cursor<'a>,
 ) -> Result<(Items<Item>, Option<RawPath>, Cursor<'a>), ReadError>
     ensures { (sets : List WrittenSet) →
-        Goes result (λ r. run (lexemes bytes.now r.2) (at (formula (policy_of sets r.0 r.1 []) ∷ []) 0)) (run (lexemes bytes.now tokens.entry) (at (item (record { sets = sets; items = [] }) ∷ []) 0)) }
+        Reads bytes.now tokens.entry result (first_item sets)
+        (λ r. r.2) (λ r. at (formula (policy_of sets r.0 r.1 []) ∷ []) 0) }
 {
     let mut items = Items::new(alloc);
     let mut rest = tokens;

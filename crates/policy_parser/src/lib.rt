@@ -1,8 +1,10 @@
-//! Policies read from their text, by recursive descent.
+//! Policies read from their text by recursive descent with one token of look-ahead: a reader for each production of the grammar in
+//! docs/LANGUAGE.md, and for each reader a state of the machine of policy_grammar that it takes over.
 #![tactic(auto)]
 
 mod fault;
 mod items;
+pub mod laws;
 mod parsing;
 mod paths;
 mod predicates;

@@ -3,7 +3,7 @@
 ghost use Rattle.std.specs.Prelude.{◌≡◌, ℕ, IfOk, IfErr, Result};
 ghost use Rattle.policy_expansion.specs.declared.policy.Policy.{Policy};
 ghost use Rattle.policy_parser.specs.declared.fault.PolicyFault.{PolicyFault};
-ghost use Rattle.policy_parser.specs.Policies.{IsWritten, IsRead, IsRefused, IsReading, AreOne, place_of as place};
+ghost use Rattle.policy_parser.specs.Policies.{IsWritten, IsRead, IsRefused, IsReading, AreOne, IsParsed, place_of as place};
 
 use crate::fault::{PolicyFault, ReadError};
 use crate::reading::read_policy;
@@ -18,7 +18,9 @@ use std::alloc::Global;
 /// The first of: a faulty token, the place where the tokens stop being a policy, a fault of the sets, too many statements, a repeated id.
 pub fn parse(alloc: Global, bytes: &[u8]) -> Result<Policy, PolicyFault>
     ensures reading { IsReading bytes.now result }
-    ensures only { (other : Result Policy PolicyFault) → IsReading bytes.now other → AreOne result other }
+    ensures only { (other : Result Policy PolicyFault) →
+        IsReading bytes.now other → AreOne result other }
+    ensures parsed { IfOk result IsParsed }
 {
     reading_of(alloc, bytes)
 }

@@ -5,7 +5,7 @@ ghost use Rattle.policy_grammar.specs.declared.written.RawPath.{RawPath};
 ghost use Rattle.policy_grammar.specs.Lexemes.{lexemes};
 ghost use Rattle.policy_grammar.specs.PathTexts.{cat_of, alt_of};
 ghost use Rattle.policy_grammar.specs.Machine.{Awaited, rep as rep_awaited, prim, reps, alts, path_bracket, whole_path, put_path, opens, run, at};
-ghost use Rattle.policy_parser.specs.Goes.{Goes, IsInSequence, begins_list, stars_list};
+ghost use Rattle.policy_parser.specs.Goes.{Reads, IsInSequence, path_awaited, begins_list, stars_list};
 
 use crate::fault::ReadError;
 use crate::signs::text;
@@ -18,7 +18,8 @@ use std::alloc::Global;
 /// Whether there are stars, and what follows them.
 fn stars<'a>(tokens: Cursor<'a>) -> (bool, Cursor<'a>)
     ensures goes { (bytes : List ℕ) (p : RawPath) (k : List Awaited) (n : ℕ) →
-        run (lexemes bytes tokens.entry) (at (prim p false ∷ k) n) ≡ run (lexemes bytes result.1) (at (prim p result.0 ∷ k) n) }
+        run (lexemes bytes tokens.entry) (at (prim p false ∷ k) n)
+        ≡ run (lexemes bytes result.1) (at (prim p result.0 ∷ k) n) }
     ensures all { (bytes : List ℕ) → stars_list (lexemes bytes result.1) ≡ false }
     ensures shorter { length result.1 ≤ length tokens.entry }
 {
@@ -47,7 +48,8 @@ fn with_stars<'a>(
     tokens: Cursor<'a>,
 ) -> Result<(RawPath, Cursor<'a>), ReadError>
     ensures goes { (bytes : List ℕ) (k : List Awaited) (n : ℕ) → IsInSequence k →
-        Goes result (λ r. run (lexemes bytes r.1) (at (put_path r.0 k) n)) (run (lexemes bytes tokens.entry) (at (prim path false ∷ k) n)) }
+        Reads bytes tokens.entry result (at (prim path false ∷ k) n)
+        (λ r. r.1) (λ r. at (put_path r.0 k) n) }
     ensures shorter { IfOk result (λ r. length r.1 ≤ length tokens.entry) }
 {
     let (found, rest) = stars(tokens);
@@ -94,7 +96,8 @@ fn rep<'a>(
     left: usize,
 ) -> Result<(RawPath, Cursor<'a>, usize), ReadError>
     ensures goes { (k : List Awaited) → IsInSequence k → opens k + room ≡ 128 →
-        Goes result (λ r. run (lexemes bytes.now r.1) (at (put_path r.0 k) r.2)) (run (lexemes bytes.now tokens.entry) (at (rep_awaited ∷ k) left)) }
+        Reads bytes.now tokens.entry result (at (rep_awaited ∷ k) left)
+        (λ r. r.1) (λ r. at (put_path r.0 k) r.2) }
     ensures shorter { IfOk result (λ r. length r.1 < length tokens.entry) }
 {
     if left == 0 {
@@ -134,7 +137,8 @@ fn group<'a>(
     left: usize,
 ) -> Result<(RawPath, Cursor<'a>, usize), ReadError>
     ensures goes { (k : List Awaited) → IsInSequence k → opens k + 1 + room ≡ 128 →
-        Goes result (λ r. run (lexemes bytes.now r.1) (at (put_path r.0 k) r.2)) (run (lexemes bytes.now tokens.entry) (at (rep_awaited ∷ reps [] ∷ alts [] ∷ path_bracket ∷ k) left)) }
+        Reads bytes.now tokens.entry result (at (path_awaited (path_bracket ∷ k)) left)
+        (λ r. r.1) (λ r. at (put_path r.0 k) r.2) }
     ensures shorter { IfOk result (λ r. length r.1 < length tokens.entry) }
 {
     let (path, rest, left) = path_of(alloc, bytes, tokens, room, left)?;
@@ -173,7 +177,8 @@ fn sequence<'a>(
     left: usize,
 ) -> Result<(RawPath, Cursor<'a>, usize), ReadError>
     ensures goes { (k : List Awaited) (ps : List RawPath) → opens k + room ≡ 128 →
-        Goes result (λ r. run (lexemes bytes.now r.1) (at (alts (ps ++ r.0 ∷ []) ∷ k) r.2)) (run (lexemes bytes.now tokens.entry) (at (rep_awaited ∷ reps [] ∷ alts ps ∷ k) left)) }
+        Reads bytes.now tokens.entry result (at (rep_awaited ∷ reps [] ∷ alts ps ∷ k) left)
+        (λ r. r.1) (λ r. at (alts (ps ++ r.0 ∷ []) ∷ k) r.2) }
     ensures shorter { IfOk result (λ r. length r.1 < length tokens.entry) }
 {
     let mut parts = Items::new(alloc);
@@ -199,7 +204,8 @@ pub(crate) fn path_of<'a>(
     left: usize,
 ) -> Result<(RawPath, Cursor<'a>, usize), ReadError>
     ensures goes { (k : List Awaited) → opens k + room ≡ 128 →
-        Goes result (λ r. run (lexemes bytes.now r.1) (at (whole_path r.0 ∷ k) r.2)) (run (lexemes bytes.now tokens.entry) (at (rep_awaited ∷ reps [] ∷ alts [] ∷ k) left)) }
+        Reads bytes.now tokens.entry result (at (path_awaited k) left)
+        (λ r. r.1) (λ r. at (whole_path r.0 ∷ k) r.2) }
     ensures shorter { IfOk result (λ r. length r.1 < length tokens.entry) }
 {
     let mut parts = Items::new(alloc);

@@ -1,14 +1,14 @@
 //! Predicates.
 
-ghost use Rattle.std.specs.Prelude.{if◌then◌else◌, ◌≡◌, ◌+◌, ◌<◌, ℕ, List, [], ◌∷◌, ◌++◌, IfOk, Option, Some, None, length, nat_le};
+ghost use Rattle.std.specs.Prelude.{if◌then◌else◌, ◌≡◌, ◌+◌, ◌<◌, ℕ, List, [], ◌∷◌, ◌++◌, IfOk, IfErr, Option, Some, None, length, nat_le};
 ghost use Rattle.merlin_model.specs.declared.policy.Pred.{Pred, Test as Tests};
 ghost use Rattle.merlin_model.specs.declared.policy.Test.{Test};
 ghost use Rattle.merlin_model.specs.declared.policy.Test.TheVariants.{Port};
 ghost use Rattle.merlin_text.specs.declared.token.Sign.TheVariants as signs;
-ghost use Rattle.policy_grammar.specs.Lexemes.{lexeme, lexemes};
-ghost use Rattle.policy_grammar.specs.Predicates.{test_of, all_of, any_of};
-ghost use Rattle.policy_grammar.specs.Machine.{Awaited, this_sign, literal as literal_awaited, lits, conjs, whole_pred, bracket, second, value_of, is_first as is_first_name, field_at, put, opens, run, at};
-ghost use Rattle.policy_parser.specs.Goes.{Goes};
+ghost use Rattle.policy_grammar.specs.Lexemes.{lexeme};
+ghost use Rattle.policy_grammar.specs.Predicates.{test_of, block_test as test_of_block, all_of, any_of};
+ghost use Rattle.policy_grammar.specs.Machine.{Awaited, this_sign, literal as literal_awaited, lits, conjs, whole_pred, bracket, second, value_of, is_first as is_first_name, field_at, put, opens, at};
+ghost use Rattle.policy_parser.specs.Goes.{Reads, IsSyntax, pred_awaited};
 
 use crate::fault::ReadError;
 use crate::signs::{sign_at, text};
@@ -66,6 +66,23 @@ fn port_test(proto: u8, field: Field, number: u32) -> Option<Test>
     }
 }
 
+/// The test of a block of addresses: its bits past the length are taken as 0, and a block of one address is that address.
+fn block_test(field: Field, value: u32, length: u8) -> Test
+    ensures { result ≡ test_of_block field value length }
+{
+    let value = u64::from(value);
+    if length < 32 {
+        let size = 1u64 << (32 - length);
+        Test::Within {
+            field,
+            value: value / size * size,
+            length,
+        }
+    } else {
+        Test::Is { field, value }
+    }
+}
+
 /// The test of a field with a value, where the field takes that token.
 fn test_with(field: Tested, value: Token) -> Option<Test>
     ensures { (bytes : List ℕ) → result ≡ test_of field (lexeme bytes value) }
@@ -87,6 +104,12 @@ fn test_with(field: Tested, value: Token) -> Option<Test>
             field: Field::IpDst,
             value: ip as u64,
         }),
+        (Tested::IpSrc, Kind::Prefix { value, length }) => {
+            Some(block_test(Field::IpSrc, value, length))
+        }
+        (Tested::IpDst, Kind::Prefix { value, length }) => {
+            Some(block_test(Field::IpDst, value, length))
+        }
         (Tested::IpProto, Kind::Number(n)) if 1 <= n && n <= 255 => Some(Test::Is {
             field: Field::Proto,
             value: n as u64,
@@ -106,8 +129,10 @@ fn field_part<'a>(
     tokens: Cursor<'a>,
 ) -> Result<(Tested, Cursor<'a>), ReadError>
     ensures goes { (k : List Awaited) (n : ℕ) →
-        Goes result (λ r. run (lexemes bytes.now r.1) (at (this_sign signs.Equals ∷ value_of r.0 ∷ k) n)) (run (lexemes bytes.now tokens.entry) (at (second first.now ∷ k) n)) }
+        Reads bytes.now tokens.entry result (at (second first.now ∷ k) n)
+        (λ r. r.1) (λ r. at (this_sign signs.Equals ∷ value_of r.0 ∷ k) n) }
     ensures shorter { IfOk result (λ r. length r.1 < length tokens.entry) }
+    ensures no_memory { IfErr result IsSyntax }
 {
     let Some((second, rest)) = tokens.split_first() else {
         return Err(ReadError::Syntax(0));
@@ -123,8 +148,10 @@ fn field_part<'a>(
 
 fn value_part<'a>(field: Tested, tokens: Cursor<'a>) -> Result<(Test, Cursor<'a>), ReadError>
     ensures goes { (bytes : List ℕ) (k : List Awaited) (n : ℕ) →
-        Goes result (λ r. run (lexemes bytes r.1) (at (put (Tests r.0) k) n)) (run (lexemes bytes tokens.entry) (at (value_of field ∷ k) n)) }
+        Reads bytes tokens.entry result (at (value_of field ∷ k) n)
+        (λ r. r.1) (λ r. at (put (Tests r.0) k) n) }
     ensures shorter { IfOk result (λ r. length r.1 < length tokens.entry) }
+    ensures no_memory { IfErr result IsSyntax }
 {
     let Some((value, rest)) = tokens.split_first() else {
         return Err(ReadError::Syntax(0));
@@ -142,8 +169,10 @@ fn test_after<'a>(
     tokens: Cursor<'a>,
 ) -> Result<(Test, Cursor<'a>), ReadError>
     ensures goes { (k : List Awaited) (n : ℕ) →
-        Goes result (λ r. run (lexemes bytes.now r.1) (at (put (Tests r.0) k) n)) (run (lexemes bytes.now tokens.entry) (at (this_sign signs.Dot ∷ second first.now ∷ k) n)) }
+        Reads bytes.now tokens.entry result (at (this_sign signs.Dot ∷ second first.now ∷ k) n)
+        (λ r. r.1) (λ r. at (put (Tests r.0) k) n) }
     ensures shorter { IfOk result (λ r. length r.1 < length tokens.entry) }
+    ensures no_memory { IfErr result IsSyntax }
 {
     let rest = sign_at(Sign::Dot, tokens)?;
     let (field, rest) = field_part(first, bytes, rest)?;
@@ -178,8 +207,10 @@ fn any(mut parts: Items<Pred>) -> Pred
 /// What follows the bracket that closes a predicate.
 fn after_bracket<'a>(tokens: Cursor<'a>) -> Result<Cursor<'a>, ReadError>
     ensures goes { (bytes : List ℕ) (pred : Pred) (k : List Awaited) (n : ℕ) →
-        Goes result (λ r. run (lexemes bytes r) (at (put pred k) n)) (run (lexemes bytes tokens.entry) (at (whole_pred pred ∷ bracket ∷ k) n)) }
+        Reads bytes tokens.entry result (at (whole_pred pred ∷ bracket ∷ k) n)
+        (λ r. r) (λ r. at (put pred k) n) }
     ensures shorter { IfOk result (λ r. length r < length tokens.entry) }
+    ensures no_memory { IfErr result IsSyntax }
 {
     let Some((first, rest)) = tokens.split_first() else {
         return Err(ReadError::Syntax(0));
@@ -201,7 +232,8 @@ fn literal<'a>(
     left: usize,
 ) -> Result<(Pred, Cursor<'a>, usize), ReadError>
     ensures goes { (k : List Awaited) → opens k + room ≡ 128 →
-        Goes result (λ r. run (lexemes bytes.now r.1) (at (put r.0 k) r.2)) (run (lexemes bytes.now tokens.entry) (at (literal_awaited ∷ k) left)) }
+        Reads bytes.now tokens.entry result (at (literal_awaited ∷ k) left)
+        (λ r. r.1) (λ r. at (put r.0 k) r.2) }
     ensures shorter { IfOk result (λ r. length r.1 < length tokens.entry) }
 {
     let Some((first, rest)) = tokens.split_first() else {
@@ -236,7 +268,9 @@ fn conjunction<'a>(
     left: usize,
 ) -> Result<(Pred, Cursor<'a>, usize), ReadError>
     ensures goes { (k : List Awaited) (ps : List Pred) → opens k + room ≡ 128 →
-        Goes result (λ r. run (lexemes bytes.now r.1) (at (conjs (ps ++ r.0 ∷ []) ∷ k) r.2)) (run (lexemes bytes.now tokens.entry) (at (literal_awaited ∷ lits [] ∷ conjs ps ∷ k) left)) }
+        Reads bytes.now tokens.entry result
+        (at (literal_awaited ∷ lits [] ∷ conjs ps ∷ k) left)
+        (λ r. r.1) (λ r. at (conjs (ps ++ r.0 ∷ []) ∷ k) r.2) }
     ensures shorter { IfOk result (λ r. length r.1 < length tokens.entry) }
 {
     let mut parts = Items::new(alloc);
@@ -270,7 +304,8 @@ pub(crate) fn predicate<'a>(
     left: usize,
 ) -> Result<(Pred, Cursor<'a>, usize), ReadError>
     ensures goes { (k : List Awaited) → opens k + room ≡ 128 →
-        Goes result (λ r. run (lexemes bytes.now r.1) (at (whole_pred r.0 ∷ k) r.2)) (run (lexemes bytes.now tokens.entry) (at (literal_awaited ∷ lits [] ∷ conjs [] ∷ k) left)) }
+        Reads bytes.now tokens.entry result (at (pred_awaited k) left)
+        (λ r. r.1) (λ r. at (whole_pred r.0 ∷ k) r.2) }
     ensures shorter { IfOk result (λ r. length r.1 < length tokens.entry) }
 {
     let mut parts = Items::new(alloc);

@@ -1,10 +1,7 @@
 //! A whole policy from its tokens.
 
-ghost use Rattle.std.specs.Prelude.{ℕ, Result, Ok};
-ghost use Rattle.policy_grammar.specs.declared.written.WrittenPolicy.{WrittenPolicy};
-ghost use Rattle.policy_grammar.specs.Lexemes.{lexemes};
-ghost use Rattle.policy_grammar.specs.Machine.{run, start};
-ghost use Rattle.policy_parser.specs.Goes.{Goes};
+ghost use Rattle.policy_grammar.specs.Machine.{start};
+ghost use Rattle.policy_parser.specs.Goes.{ReadsAll};
 
 use crate::fault::ReadError;
 use crate::items::items;
@@ -20,7 +17,7 @@ pub fn read_policy(
     bytes: &[u8],
     tokens: Cursor<'_>,
 ) -> Result<WrittenPolicy, ReadError>
-    ensures { Goes result (λ policy. (let r : Result WrittenPolicy ℕ = Ok policy in r)) (run (lexemes bytes.now tokens.entry) start) }
+    ensures { ReadsAll bytes.now tokens.entry result start (λ policy. policy) }
 {
     let (sets, rest) = sets(alloc, bytes, tokens)?;
     let (items, default_path, rest) = items(alloc, bytes, rest)?;

@@ -1,12 +1,10 @@
 //! Sets of addresses.
 
-ghost use Rattle.std.specs.Prelude.{◌≡◌, ◌<◌, ℕ, List, [], ◌∷◌, ◌++◌, IfOk, length};
-ghost use Rattle.merlin_text.specs.declared.token.Sign.TheVariants as signs;
+ghost use Rattle.std.specs.Prelude.{◌≡◌, ◌<◌, ℕ, List, [], ◌∷◌, ◌++◌, IfOk, IfErr, length};
 ghost use Rattle.policy_grammar.specs.declared.written.Literal.{Literal};
 ghost use Rattle.policy_grammar.specs.declared.written.WrittenSet.{WrittenSet};
-ghost use Rattle.policy_grammar.specs.Lexemes.{lexemes};
-ghost use Rattle.policy_grammar.specs.Machine.{this_sign, sets as sets_awaited, set_start, set_rest, set_more, with_set, item, run, at, start};
-ghost use Rattle.policy_parser.specs.Goes.{Goes};
+ghost use Rattle.policy_grammar.specs.Machine.{sets as sets_awaited, set_start, set_rest, set_more, with_set, at, start};
+ghost use Rattle.policy_parser.specs.Goes.{Reads, IsSyntax, set_awaited, first_item};
 
 use crate::fault::ReadError;
 use crate::signs::{sign_at, text};
@@ -18,9 +16,12 @@ use std::alloc::Global;
 
 /// An address of a set, and what follows it.
 fn literal_at<'a>(tokens: Cursor<'a>) -> Result<(Literal, Cursor<'a>), ReadError>
-    ensures goes { (bytes : List ℕ) (ss : List WrittenSet) (name : List ℕ) (ls : List Literal) →
-        Goes result (λ r. run (lexemes bytes r.1) (at (set_rest ss name (ls ++ r.0 ∷ []) ∷ []) 0)) (run (lexemes bytes tokens.entry) (at (set_more ss name ls ∷ []) 0)) }
+    ensures goes { (bytes : List ℕ) (sets : List WrittenSet) (name : List ℕ)
+        (literals : List Literal) →
+        Reads bytes tokens.entry result (at (set_more sets name literals ∷ []) 0)
+        (λ r. r.1) (λ r. at (set_rest sets name (literals ++ r.0 ∷ []) ∷ []) 0) }
     ensures shorter { IfOk result (λ r. length r.1 < length tokens.entry) }
+    ensures no_memory { IfErr result IsSyntax }
 {
     let Some((first, rest)) = tokens.split_first() else {
         return Err(ReadError::Syntax(0));
@@ -38,7 +39,8 @@ fn literals<'a>(
     tokens: Cursor<'a>,
 ) -> Result<(Items<Literal>, Cursor<'a>), ReadError>
     ensures goes { (bytes : List ℕ) (ss : List WrittenSet) (name : List ℕ) →
-        Goes result (λ r. run (lexemes bytes r.1) (at (sets_awaited (with_set ss name r.0) ∷ []) 0)) (run (lexemes bytes tokens.entry) (at (set_start ss name ∷ []) 0)) }
+        Reads bytes tokens.entry result (at (set_start ss name ∷ []) 0)
+        (λ r. r.1) (λ r. at (sets_awaited (with_set ss name r.0) ∷ []) 0) }
     ensures shorter { IfOk result (λ r. length r.1 < length tokens.entry) }
 {
     let mut literals = Items::new(alloc);
@@ -75,7 +77,8 @@ fn set_after<'a>(
     tokens: Cursor<'a>,
 ) -> Result<(Items<Literal>, Cursor<'a>), ReadError>
     ensures goes { (bytes : List ℕ) (ss : List WrittenSet) (name : List ℕ) →
-        Goes result (λ r. run (lexemes bytes r.1) (at (sets_awaited (with_set ss name r.0) ∷ []) 0)) (run (lexemes bytes tokens.entry) (at (this_sign signs.Becomes ∷ this_sign signs.OpenSet ∷ set_start ss name ∷ []) 0)) }
+        Reads bytes tokens.entry result (at (set_awaited ss name) 0)
+        (λ r. r.1) (λ r. at (sets_awaited (with_set ss name r.0) ∷ []) 0) }
     ensures shorter { IfOk result (λ r. length r.1 < length tokens.entry) }
 {
     let rest = sign_at(Sign::Becomes, tokens)?;
@@ -89,7 +92,8 @@ pub(crate) fn sets<'a>(
     bytes: &[u8],
     tokens: Cursor<'a>,
 ) -> Result<(Items<WrittenSet>, Cursor<'a>), ReadError>
-    ensures { Goes result (λ r. run (lexemes bytes.now r.1) (at (item (record { sets = r.0; items = [] }) ∷ []) 0)) (run (lexemes bytes.now tokens.entry) start) }
+    ensures { Reads bytes.now tokens.entry result start
+        (λ r. r.1) (λ r. first_item r.0) }
 {
     let mut sets = Items::new(alloc);
     let mut rest = tokens;

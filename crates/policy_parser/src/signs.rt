@@ -1,13 +1,12 @@
-//! Phrases of one token. Each reader takes the tokens from its phrase on, and gives the tokens after it.
+//! Readers of one token, of which recursive descent is made: each takes the tokens from its phrase on, and gives those after it.
 
-ghost use Rattle.std.specs.Prelude.{if◌then◌else◌, ◌≡◌, ◌<◌, ◌&&◌, ℕ, List, [], ◌∷◌, IfOk, Some, length, nat_le, slice_range};
+ghost use Rattle.std.specs.Prelude.{◌≡◌, ◌<◌, ℕ, List, [], ◌∷◌, IfOk, IfErr, Some, length};
 ghost use Rattle.merlin_model.specs.declared.policy.Bound.{Bound};
 ghost use Rattle.merlin_model.specs.declared.policy.Part.{Part};
 ghost use Rattle.merlin_text.specs.declared.token.Sign.TheVariants as signs;
 ghost use Rattle.policy_grammar.specs.declared.written.WrittenPolicy.{WrittenPolicy};
-ghost use Rattle.policy_grammar.specs.Lexemes.{lexemes};
-ghost use Rattle.policy_grammar.specs.Machine.{Awaited, Head, Opened, this_sign, this_word, any_name, outer_set, inner_set, each_id, heading_of, limit, limit_rate, limit_rest, with_limit, term, leading, term_rate, terms_rest, with_term, sign_number, word_number, run, at};
-ghost use Rattle.policy_parser.specs.Goes.{Goes, statement_awaited};
+ghost use Rattle.policy_grammar.specs.Machine.{Awaited, Head, Opened, this_sign, this_word, any_name, outer_set, inner_set, each_id, heading_of, limit, limit_rate, limit_rest, with_limit, term, leading, term_rate, terms_rest, with_term, sign_number, word_number, at};
+ghost use Rattle.policy_parser.specs.Goes.{Reads, IsSyntax, text_in, statement_awaited, each_id_awaited, closing};
 
 use crate::fault::ReadError;
 use merlin_model::name::{Name, name_from};
@@ -17,7 +16,7 @@ use std::alloc::Global;
 
 /// The bytes of a token; none where its ends are none of the text.
 pub(crate) fn text(bytes: &[u8], span: Span) -> &[u8]
-    ensures { result.now ≡ (if nat_le span.start span.end && nat_le span.end (length bytes.now) then slice_range bytes.now span.start span.end else []) }
+    ensures { result.now ≡ text_in bytes.now span }
 {
     if span.start <= span.end && span.end <= bytes.len() {
         &bytes[span.start..span.end]
@@ -41,8 +40,10 @@ fn number_of_word(word: Word) -> u8
 /// What follows this sign.
 pub(crate) fn sign_at<'a>(sign: Sign, tokens: Cursor<'a>) -> Result<Cursor<'a>, ReadError>
     ensures goes { (bytes : List ℕ) (k : List Awaited) (n : ℕ) →
-        Goes result (λ r. run (lexemes bytes r) (at k n)) (run (lexemes bytes tokens.entry) (at (this_sign sign ∷ k) n)) }
+        Reads bytes tokens.entry result (at (this_sign sign ∷ k) n)
+        (λ r. r) (λ r. at k n) }
     ensures shorter { IfOk result (λ r. length r < length tokens.entry) }
+    ensures no_memory { IfErr result IsSyntax }
 {
     let Some((first, rest)) = tokens.split_first() else {
         return Err(ReadError::Syntax(0));
@@ -56,8 +57,10 @@ pub(crate) fn sign_at<'a>(sign: Sign, tokens: Cursor<'a>) -> Result<Cursor<'a>, 
 /// What follows this word.
 pub(crate) fn word_at<'a>(word: Word, tokens: Cursor<'a>) -> Result<Cursor<'a>, ReadError>
     ensures goes { (bytes : List ℕ) (k : List Awaited) (n : ℕ) →
-        Goes result (λ r. run (lexemes bytes r) (at k n)) (run (lexemes bytes tokens.entry) (at (this_word word ∷ k) n)) }
+        Reads bytes tokens.entry result (at (this_word word ∷ k) n)
+        (λ r. r) (λ r. at k n) }
     ensures shorter { IfOk result (λ r. length r < length tokens.entry) }
+    ensures no_memory { IfErr result IsSyntax }
 {
     let Some((first, rest)) = tokens.split_first() else {
         return Err(ReadError::Syntax(0));
@@ -71,8 +74,10 @@ pub(crate) fn word_at<'a>(word: Word, tokens: Cursor<'a>) -> Result<Cursor<'a>, 
 /// What follows a name, whatever it is.
 pub(crate) fn any_name_at<'a>(tokens: Cursor<'a>) -> Result<Cursor<'a>, ReadError>
     ensures goes { (bytes : List ℕ) (k : List Awaited) (n : ℕ) →
-        Goes result (λ r. run (lexemes bytes r) (at k n)) (run (lexemes bytes tokens.entry) (at (any_name ∷ k) n)) }
+        Reads bytes tokens.entry result (at (any_name ∷ k) n)
+        (λ r. r) (λ r. at k n) }
     ensures shorter { IfOk result (λ r. length r < length tokens.entry) }
+    ensures no_memory { IfErr result IsSyntax }
 {
     let Some((first, rest)) = tokens.split_first() else {
         return Err(ReadError::Syntax(0));
@@ -90,11 +95,14 @@ pub(crate) fn name_at<'a>(
     tokens: Cursor<'a>,
 ) -> Result<(Name, Cursor<'a>), ReadError>
     ensures outer { (h : Head) →
-        Goes result (λ r. run (lexemes bytes.now r.1) (at (this_sign signs.Comma ∷ inner_set h r.0 ∷ []) 0)) (run (lexemes bytes.now tokens.entry) (at (outer_set h ∷ []) 0)) }
+        Reads bytes.now tokens.entry result (at (outer_set h ∷ []) 0)
+        (λ r. r.1) (λ r. at (this_sign signs.Comma ∷ inner_set h r.0 ∷ []) 0) }
     ensures inner { (h : Head) (outer : List ℕ) →
-        Goes result (λ r. run (lexemes bytes.now r.1) (at (this_sign signs.CloseGroup ∷ this_sign signs.Colon ∷ each_id h outer r.0 ∷ []) 0)) (run (lexemes bytes.now tokens.entry) (at (inner_set h outer ∷ []) 0)) }
+        Reads bytes.now tokens.entry result (at (inner_set h outer ∷ []) 0)
+        (λ r. r.1) (λ r. at (each_id_awaited h outer r.0) 0) }
     ensures id { (h : Head) (outer inner : List ℕ) →
-        Goes result (λ r. run (lexemes bytes.now r.1) (statement_awaited (heading_of h (Some (outer, inner)) r.0))) (run (lexemes bytes.now tokens.entry) (at (each_id h outer inner ∷ []) 0)) }
+        Reads bytes.now tokens.entry result (at (each_id h outer inner ∷ []) 0)
+        (λ r. r.1) (λ r. statement_awaited (heading_of h (Some (outer, inner)) r.0)) }
     ensures shorter { IfOk result (λ r. length r.1 < length tokens.entry) }
 {
     let Some((first, rest)) = tokens.split_first() else {
@@ -109,10 +117,13 @@ pub(crate) fn name_at<'a>(
 /// The bound of a limit or a term, and what follows it.
 pub(crate) fn bound_at<'a>(tokens: Cursor<'a>) -> Result<(Bound, Cursor<'a>), ReadError>
     ensures limit { (bytes : List ℕ) (o : Opened) →
-        Goes result (λ r. run (lexemes bytes r.1) (at (this_sign signs.OpenGroup ∷ limit_rate o r.0 ∷ []) 0)) (run (lexemes bytes tokens.entry) (at (limit o ∷ []) 0)) }
+        Reads bytes tokens.entry result (at (limit o ∷ []) 0)
+        (λ r. r.1) (λ r. at (this_sign signs.OpenGroup ∷ limit_rate o r.0 ∷ []) 0) }
     ensures term { (bytes : List ℕ) (w : WrittenPolicy) →
-        Goes result (λ r. run (lexemes bytes r.1) (at (this_sign signs.OpenGroup ∷ leading w r.0 [] ∷ []) 0)) (run (lexemes bytes tokens.entry) (at (term w ∷ []) 0)) }
+        Reads bytes tokens.entry result (at (term w ∷ []) 0)
+        (λ r. r.1) (λ r. at (this_sign signs.OpenGroup ∷ leading w r.0 [] ∷ []) 0) }
     ensures shorter { IfOk result (λ r. length r.1 < length tokens.entry) }
+    ensures no_memory { IfErr result IsSyntax }
 {
     let Some((first, rest)) = tokens.split_first() else {
         return Err(ReadError::Syntax(0));
@@ -127,10 +138,13 @@ pub(crate) fn bound_at<'a>(tokens: Cursor<'a>) -> Result<(Bound, Cursor<'a>), Re
 /// The rate of a limit or a term, and what follows it.
 pub(crate) fn rate_at<'a>(tokens: Cursor<'a>) -> Result<(u64, Cursor<'a>), ReadError>
     ensures limit { (bytes : List ℕ) (o : Opened) (b : Bound) →
-        Goes result (λ r. run (lexemes bytes r.1) (at (this_sign signs.CloseGroup ∷ limit_rest (with_limit o b r.0) ∷ []) 0)) (run (lexemes bytes tokens.entry) (at (limit_rate o b ∷ []) 0)) }
+        Reads bytes tokens.entry result (at (limit_rate o b ∷ []) 0)
+        (λ r. r.1) (λ r. closing (limit_rest (with_limit o b r.0))) }
     ensures term { (bytes : List ℕ) (w : WrittenPolicy) (b : Bound) (parts : List Part) →
-        Goes result (λ r. run (lexemes bytes r.1) (at (this_sign signs.CloseGroup ∷ terms_rest (with_term w b parts r.0) ∷ []) 0)) (run (lexemes bytes tokens.entry) (at (term_rate w b parts ∷ []) 0)) }
+        Reads bytes tokens.entry result (at (term_rate w b parts ∷ []) 0)
+        (λ r. r.1) (λ r. closing (terms_rest (with_term w b parts r.0))) }
     ensures shorter { IfOk result (λ r. length r.1 < length tokens.entry) }
+    ensures no_memory { IfErr result IsSyntax }
 {
     let Some((first, rest)) = tokens.split_first() else {
         return Err(ReadError::Syntax(0));

@@ -1,6 +1,6 @@
 //! Terms of the bandwidth formula.
 
-ghost use Rattle.std.specs.Prelude.{◌≡◌, ◌<◌, ◌≤◌, ℕ, List, [], ◌∷◌, ◌++◌, IfOk, IfSome, Option, Result, Ok, length};
+ghost use Rattle.std.specs.Prelude.{◌≡◌, ◌<◌, ◌≤◌, ℕ, List, [], ◌∷◌, ◌++◌, IfOk, IfErr, IfSome, Option, Result, Ok, length};
 ghost use Rattle.merlin_model.specs.declared.policy.Bound.{Bound};
 ghost use Rattle.merlin_model.specs.declared.policy.Part.{Part};
 ghost use Rattle.merlin_model.specs.declared.policy.Term.{Term};
@@ -10,7 +10,7 @@ ghost use Rattle.policy_grammar.specs.declared.written.WrittenPolicy.{WrittenPol
 ghost use Rattle.policy_grammar.specs.declared.written.WrittenSet.{WrittenSet};
 ghost use Rattle.policy_grammar.specs.Lexemes.{lexemes};
 ghost use Rattle.policy_grammar.specs.Machine.{formula, terms_rest, term as term_awaited, leading, sum_rest, summand, term_rate, with_term, run, at};
-ghost use Rattle.policy_parser.specs.Goes.{Goes, policy_of, more_terms};
+ghost use Rattle.policy_parser.specs.Goes.{Goes, Reads, ReadsAll, IsSyntax, policy_of, more_terms};
 
 use crate::fault::ReadError;
 use crate::signs::{bound_at, rate_at, sign_at, text};
@@ -27,7 +27,8 @@ fn leading_part<'a>(
     tokens: Cursor<'a>,
 ) -> Result<(Items<Part>, Cursor<'a>), ReadError>
     ensures goes { (w : WrittenPolicy) (b : Bound) →
-        Goes result (λ r. run (lexemes bytes.now r.1) (at (sum_rest w b r.0 ∷ []) 0)) (run (lexemes bytes.now tokens.entry) (at (leading w b [] ∷ []) 0)) }
+        Reads bytes.now tokens.entry result (at (leading w b [] ∷ []) 0)
+        (λ r. r.1) (λ r. at (sum_rest w b r.0 ∷ []) 0) }
     ensures shorter { IfOk result (λ r. length r.1 < length tokens.entry) }
 {
     let mut parts = Items::new(alloc);
@@ -57,7 +58,8 @@ fn summand_at<'a>(
     tokens: Cursor<'a>,
 ) -> Result<(Part, Cursor<'a>), ReadError>
     ensures goes { (w : WrittenPolicy) (b : Bound) (parts : List Part) →
-        Goes result (λ r. run (lexemes bytes.now r.1) (at (sum_rest w b (parts ++ r.0 ∷ []) ∷ []) 0)) (run (lexemes bytes.now tokens.entry) (at (summand w b parts ∷ []) 0)) }
+        Reads bytes.now tokens.entry result (at (summand w b parts ∷ []) 0)
+        (λ r. r.1) (λ r. at (sum_rest w b (parts ++ r.0 ∷ []) ∷ []) 0) }
     ensures shorter { IfOk result (λ r. length r.1 < length tokens.entry) }
 {
     let Some((first, rest)) = tokens.split_first() else {
@@ -77,7 +79,8 @@ fn sum<'a>(
     tokens: Cursor<'a>,
 ) -> Result<(Items<Part>, Cursor<'a>), ReadError>
     ensures goes { (w : WrittenPolicy) (b : Bound) →
-        Goes result (λ r. run (lexemes bytes.now r.1) (at (term_rate w b r.0 ∷ []) 0)) (run (lexemes bytes.now tokens.entry) (at (leading w b [] ∷ []) 0)) }
+        Reads bytes.now tokens.entry result (at (leading w b [] ∷ []) 0)
+        (λ r. r.1) (λ r. at (term_rate w b r.0 ∷ []) 0) }
     ensures shorter { IfOk result (λ r. length r.1 < length tokens.entry) }
 {
     let (mut parts, mut rest) = leading_part(alloc, bytes, tokens)?;
@@ -104,7 +107,8 @@ fn term<'a>(
     tokens: Cursor<'a>,
 ) -> Result<(Term, Cursor<'a>), ReadError>
     ensures goes { (w : WrittenPolicy) →
-        Goes result (λ r. run (lexemes bytes.now r.1) (at (terms_rest (with_term w r.0.bound r.0.parts r.0.rate) ∷ []) 0)) (run (lexemes bytes.now tokens.entry) (at (term_awaited w ∷ []) 0)) }
+        Reads bytes.now tokens.entry result (at (term_awaited w ∷ []) 0)
+        (λ r. r.1) (λ r. at (terms_rest (with_term w r.0.bound r.0.parts r.0.rate) ∷ []) 0) }
     ensures shorter { IfOk result (λ r. length r.1 < length tokens.entry) }
 {
     let (bound, rest) = bound_at(tokens)?;
@@ -118,8 +122,10 @@ fn term<'a>(
 /// What follows `and`, if another term stands after this one. None at the end of the text.
 fn next_term<'a>(tokens: Cursor<'a>) -> Result<Option<Cursor<'a>>, ReadError>
     ensures goes { (bytes : List ℕ) (w : WrittenPolicy) →
-        Goes result (more_terms bytes w) (run (lexemes bytes tokens.entry) (at (terms_rest w ∷ []) 0)) }
+        Goes result (more_terms bytes w)
+        (run (lexemes bytes tokens.entry) (at (terms_rest w ∷ []) 0)) }
     ensures shorter { IfOk result (λ r. IfSome r (λ rest. length rest < length tokens.entry)) }
+    ensures no_memory { IfErr result IsSyntax }
 {
     let Some((first, rest)) = tokens.split_first() else {
         return Ok(None);
@@ -137,7 +143,9 @@ fn terms_after<'a>(
     tokens: Cursor<'a>,
 ) -> Result<Items<Term>, ReadError>
     ensures { (sets : List WrittenSet) (items : List Item) (default : Option RawPath) →
-        Goes result (λ terms. (let r : Result WrittenPolicy ℕ = Ok (policy_of sets items default terms) in r)) (run (lexemes bytes.now tokens.entry) (at (term_awaited (policy_of sets items default []) ∷ []) 0)) }
+        ReadsAll bytes.now tokens.entry result
+        (at (term_awaited (policy_of sets items default []) ∷ []) 0)
+        (policy_of sets items default) }
 {
     let mut terms = Items::new(alloc);
     let mut rest = tokens;
@@ -158,7 +166,8 @@ pub(crate) fn formula_of<'a>(
     tokens: Cursor<'a>,
 ) -> Result<Items<Term>, ReadError>
     ensures { (sets : List WrittenSet) (items : List Item) (default : Option RawPath) →
-        Goes result (λ terms. (let r : Result WrittenPolicy ℕ = Ok (policy_of sets items default terms) in r)) (run (lexemes bytes.now tokens.entry) (at (formula (policy_of sets items default []) ∷ []) 0)) }
+        ReadsAll bytes.now tokens.entry result
+        (at (formula (policy_of sets items default []) ∷ []) 0) (policy_of sets items default) }
 {
     let Some((first, rest)) = tokens.split_first() else {
         return Ok(Items::new(alloc));

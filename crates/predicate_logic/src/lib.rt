@@ -3,7 +3,7 @@
 
 ghost use Rattle.std.specs.Prelude.{◌≡◌};
 ghost use Rattle.std.specs.List.{list_all, list_any};
-ghost use Rattle.merlin_model.specs.Predicates.{passes, holds as holds_of};
+ghost use Rattle.merlin_model.specs.Predicates.{passes, first_bits as first_bits_of, holds as holds_of};
 
 pub use merlin_model::policy::{Pred, Test};
 use packet_model::{Field, Packet};
@@ -63,5 +63,17 @@ fn passes_test(test: Test, packet: &Packet) -> bool
             packet.value(Field::Proto) == u64::from(proto)
                 && packet.value(field) == u64::from(value)
         }
+        Test::Within {
+            field,
+            value,
+            length,
+        } => first_bits(length, packet.value(field)) == first_bits(length, value),
     }
+}
+
+/// The first bits of an IPv4 address, as many as the length says, as a number.
+fn first_bits(length: u8, address: u64) -> u64
+    ensures { result ≡ first_bits_of length address }
+{
+    address >> 32u8.saturating_sub(length)
 }

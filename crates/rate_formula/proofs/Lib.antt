@@ -1,3 +1,4 @@
 pub mod Joined
 pub mod Among
 pub mod Written
+pub mod Traffic

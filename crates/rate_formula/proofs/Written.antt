@@ -13,36 +13,50 @@ use Rattle.merlin_model.specs.declared.policy.Bound.TheVariants.{Max, Min}
 use Rattle.merlin_model.specs.declared.policy.Part.{Part}
 use Rattle.merlin_model.specs.declared.policy.Part.TheVariants.{Id, Constant}
 use Rattle.merlin_model.specs.declared.policy.Term.{Term}
+use Rattle.merlin_text.specs.declared.token.Kind.TheVariants as kinds
+use Rattle.merlin_text.specs.declared.token.Word.{Word}
 use Rattle.merlin_text.specs.declared.token.Word.TheVariants as words
+use Rattle.merlin_text.specs.declared.token.Sign.{Sign}
 use Rattle.merlin_text.specs.declared.token.Sign.TheVariants as signs
-use Rattle.merlin_text.specs.Tokens.{spelling, IsRunByte, EndsBefore, IsRun, BeginsNoMac, IsLexeme, Sort, gap, verbal, numeral, mac, sign as signed, sort_of, GoesTo, GivesWay, Piece, text_of, ArePieces}
+use Rattle.merlin_text.specs.Tokens.{spelling, written, IsRunByte, EndsBefore, IsRun, BeginsNoMac, IsLexeme, Sort, gap, verbal, numeral, mac, sign as signed, sort_of, GoesTo, GivesWay, Piece, text_of, ArePieces}
 use Rattle.rate_formula.specs.FormulaText.{rate_text, part_text, bound_text, term_text, formula_text}
-use Rattle.rate_formula.specs.FormulaLexemes.{IsWritablePart, IsWritableTerm, IsWritable, Lexeme, word, sign, rate_lexeme, part_lexeme, bound_word, term_lexemes, formula_lexemes, lexeme_in, lexemes_of, HasLexemes}
+use Rattle.rate_formula.specs.FormulaLexemes.{IsWritablePart, IsWritableTerm, IsWritable, part_lexeme, bound_word, term_lexemes, formula_lexemes, lexemes_of, HasLexemes}
+use Rattle.merlin_text.specs.Lexemes.{lexeme_at, word as word_lexeme, sign as sign_lexeme}
 
 -- The pieces: lexemes, with a blank on each side of `+` and `and` and after a comma.
 
-abbrev piece : Lexeme → Piece
-piece l = (Some l.0, l.1)
+abbrev pub word : Word → Piece
+word w = (Some (kinds.Word w), spelling w)
 
-abbrev blank : Piece
+abbrev pub sign : Sign → Piece
+sign s = (Some (kinds.Sign s), written s)
+
+abbrev pub rate_piece : ℕ → Piece
+rate_piece rate = (Some (kinds.Rate rate), rate_text rate)
+
+abbrev pub part_piece : Part → Piece
+part_piece (Id id) = (Some kinds.Name, id)
+part_piece (Constant rate) = rate_piece rate
+
+abbrev pub blank : Piece
 blank = (None, 32 ∷ [])
 
-abbrev plus_between : List Piece
-plus_between = blank ∷ piece (sign signs.Plus) ∷ blank ∷ []
+abbrev pub plus_between : List Piece
+plus_between = blank ∷ sign signs.Plus ∷ blank ∷ []
 
-abbrev and_between : List Piece
-and_between = blank ∷ piece (word words.And) ∷ blank ∷ []
+abbrev pub and_between : List Piece
+and_between = blank ∷ word words.And ∷ blank ∷ []
 
-abbrev part_pieces : Part → List Piece
-part_pieces part = piece (part_lexeme part) ∷ []
+abbrev pub part_pieces : Part → List Piece
+part_pieces part = part_piece part ∷ []
 
-abbrev term_end : ℕ → List Piece
-term_end rate = piece (sign signs.Comma) ∷ blank ∷ piece (rate_lexeme rate) ∷ piece (sign signs.CloseGroup) ∷ []
+abbrev pub term_end : ℕ → List Piece
+term_end rate = sign signs.Comma ∷ blank ∷ rate_piece rate ∷ sign signs.CloseGroup ∷ []
 
-abbrev term_pieces : Term → List Piece
-term_pieces term = piece (word (bound_word term.bound)) ∷ piece (sign signs.OpenGroup) ∷ join_by part_pieces plus_between term.parts ++ term_end term.rate
+abbrev pub term_pieces : Term → List Piece
+term_pieces term = word (bound_word term.bound) ∷ sign signs.OpenGroup ∷ join_by part_pieces plus_between term.parts ++ term_end term.rate
 
-abbrev formula_pieces : List Term → List Piece
+abbrev pub formula_pieces : List Term → List Piece
 formula_pieces terms = join_by term_pieces and_between terms
 
 -- What respects `++` respects joining.
@@ -74,17 +88,21 @@ term_pieces-text term =
     ∙ ap (λ text. bound_text term.bound ++ text) (text_of-append (join_by part_pieces plus_between term.parts) (term_end term.rate) ∙ ap (λ text. text ++ text_of (term_end term.rate)) sum)
     ∙ sym regrouped
 
-formula_pieces-text : (terms : List Term) → text_of (formula_pieces terms) ≡ formula_text terms
+pub formula_pieces-text : (terms : List Term) → text_of (formula_pieces terms) ≡ formula_text terms
 formula_pieces-text terms = join_by-map text_of refl text_of-append term_pieces term_text and_between term_pieces-text terms
 
 lexemes_of-append : (ps qs : List Piece) → lexemes_of (ps ++ qs) ≡ lexemes_of ps ++ lexemes_of qs
-lexemes_of-append ps qs = flat_map-append (λ p. lexeme_in p.0 p.1) ps qs
+lexemes_of-append ps qs = flat_map-append (λ p. lexeme_at p.0 p.1 0) ps qs
+
+part_pieces-lexemes : (part : Part) → lexemes_of (part_pieces part) ≡ part_lexeme part ∷ []
+part_pieces-lexemes (Id id) = refl
+part_pieces-lexemes (Constant rate) = refl
 
 term_pieces-lexemes : (term : Term) → lexemes_of (term_pieces term) ≡ term_lexemes term
 term_pieces-lexemes term =
-    ap (λ ls. word (bound_word term.bound) ∷ sign signs.OpenGroup ∷ ls)
+    ap (λ ls. word_lexeme (bound_word term.bound) ∷ sign_lexeme signs.OpenGroup ∷ ls)
     (lexemes_of-append (join_by part_pieces plus_between term.parts) (term_end term.rate)
-    ∙ ap (λ ls. ls ++ lexemes_of (term_end term.rate)) (join_by-map lexemes_of refl lexemes_of-append part_pieces (λ part. part_lexeme part ∷ []) plus_between (λ part. refl) term.parts))
+    ∙ ap (λ ls. ls ++ lexemes_of (term_end term.rate)) (join_by-map lexemes_of refl lexemes_of-append part_pieces (λ part. part_lexeme part ∷ []) plus_between part_pieces-lexemes term.parts))
 
 formula_pieces-lexemes : (terms : List Term) → lexemes_of (formula_pieces terms) ≡ formula_lexemes terms
 formula_pieces-lexemes terms = join_by-map lexemes_of refl lexemes_of-append term_pieces term_lexemes and_between term_pieces-lexemes terms
@@ -247,7 +265,7 @@ one_byte c other e = let same : c ≡ 58 = cc in absurd (other same)
 
 -- Sums, terms and formulas.
 
-part_local : (part : Part) (rest : List ℕ) → IsWritablePart part → Stops rest → IsLexeme (Some (part_lexeme part).0) (part_lexeme part).1 × GoesTo (sort_of (Some (part_lexeme part).0)) (part_lexeme part).1 rest × NoColon (part_lexeme part).1
+part_local : (part : Part) (rest : List ℕ) → IsWritablePart part → Stops rest → IsLexeme (part_piece part).0 (part_piece part).1 × GoesTo (sort_of (part_piece part).0) (part_piece part).1 rest × NoColon (part_piece part).1
 part_local (Id id) rest is stops = let run = name_run id rest is stops in (is, run.0, run.1)
 part_local (Constant rate) rest is stops = let run = rate_run rate rest is stops in (is_rate rate is, run.0, run.1)
 
@@ -347,10 +365,14 @@ formula_local : (terms : List Term) (rest : List ℕ) → IsWritable terms → A
 formula_local [] rest h = tt
 formula_local (term ∷ terms) rest h = AreLocal-append (term_pieces term) (later_terms terms) rest (term_local term (text_of (later_terms terms) ++ rest) h.0) (later_terms_local terms rest h.1)
 
+-- the printed text is cut into these pieces
+pub formula_is_cut : (terms : List Term) → IsWritable terms → ArePieces (formula_pieces terms) []
+formula_is_cut terms h = (lawful (formula_pieces terms) [] tt (formula_local terms [] h)).0
+
 pub formula_has_lexemes : (terms : List Term) → IsWritable terms → HasLexemes (formula_text terms) (formula_lexemes terms)
 formula_has_lexemes terms h = record {
   pieces = formula_pieces terms;
   whole = sym (formula_pieces-text terms);
-  lawful = (lawful (formula_pieces terms) [] tt (formula_local terms [] h)).0;
+  lawful = formula_is_cut terms h;
   are = formula_pieces-lexemes terms;
 }

@@ -25,16 +25,26 @@ pub fn meets(formula: &Formula, ids: &[Name], usage: &[u64]) -> bool
 /// Whether the sum of a term is within its bound.
 fn keeps_bound(term: &Term, ids: &[Name], usage: &[u64]) -> bool
     requires { length ids.now ≡ length usage.now }
-    ensures { IsTrue result ↔ KeepsBound term.now.bound (total_of (rate_among ids.now usage.now) term.now) term.now.rate }
+    ensures { IsTrue result ↔
+        KeepsBound term.now.bound (total_of (rate_among ids.now usage.now) term.now) term.now.rate }
+{
+    let total = total(term, ids, usage);
+    match term.bound {
+        Bound::Max => total <= u128::from(term.rate),
+        Bound::Min => u128::from(term.rate) <= total,
+    }
+}
+
+/// The sum of a term.
+fn total(term: &Term, ids: &[Name], usage: &[u64]) -> u128
+    requires { length ids.now ≡ length usage.now }
+    ensures { result ≡ total_of (rate_among ids.now usage.now) term.now }
 {
     let mut total: u128 = 0;
     for part in term.parts.as_slice() {
         total += u128::from(rate_of(part, ids, usage));
     }
-    match term.bound {
-        Bound::Max => total <= u128::from(term.rate),
-        Bound::Min => u128::from(term.rate) <= total,
-    }
+    total
 }
 
 /// The rate that a part of a sum stands for.
@@ -43,13 +53,13 @@ fn rate_of(part: &Part, ids: &[Name], usage: &[u64]) -> u64
     ensures { result ≡ rate_of_part (rate_among ids.now usage.now) part.now }
 {
     match part {
-        Part::Id(id) => rate_of_id(id, ids, usage),
+        Part::Id(id) => rate_among(id, ids, usage),
         Part::Constant(rate) => *rate,
     }
 }
 
 /// The rate of an id.
-fn rate_of_id(id: &Name, ids: &[Name], usage: &[u64]) -> u64
+fn rate_among(id: &Name, ids: &[Name], usage: &[u64]) -> u64
     requires { length ids.now ≡ length usage.now }
     ensures { result ≡ rate_among ids.now usage.now id.now }
 {

@@ -13,7 +13,8 @@ use std::alloc::{AllocError, Global};
 /// The text of a formula, such as `max(x + y + 5kbps, 9kbps) and min(x, 2kbps)`. Without a term it is empty.
 pub fn print_formula(alloc: Global, formula: &Formula) -> Result<Name, OutOfMemory>
     ensures text { IfOk result (λ text. text ≡ formula_text formula.now.terms) }
-    ensures reads_back { IfOk result (λ text. IsWritable formula.now.terms → HasLexemes text (formula_lexemes formula.now.terms)) }
+    ensures reads_back { IfOk result (λ text. IsWritable formula.now.terms →
+        HasLexemes text (formula_lexemes formula.now.terms)) }
 {
     let mut text = Vec::new(alloc);
     for (place, term) in formula.terms.as_slice().iter().enumerate() {
@@ -42,7 +43,8 @@ fn write_term(alloc: Global, text: &mut Vec<u8>, term: &Term) -> Result<(), Allo
 
 /// Writes the parts of a sum at the end of a text.
 fn write_sum(alloc: Global, text: &mut Vec<u8>, parts: &[Part]) -> Result<(), AllocError>
-    ensures { OnOk result (text.new.items ≡ text.old.items ++ join_by part_text (codes " + ") parts.now) }
+    ensures { OnOk result (text.new.items ≡ text.old.items ++ join_by part_text
+        (codes " + ") parts.now) }
 {
     for (place, part) in parts.iter().enumerate() {
         if 0 < place {

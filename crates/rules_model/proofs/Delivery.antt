@@ -7,17 +7,17 @@ use Rattle.merlin_model.specs.declared.network.Kind.{Kind}
 use Rattle.merlin_model.specs.declared.network.Kind.TheVariants.{Host, Switch, Middlebox}
 use Rattle.merlin_model.specs.declared.config.Config.{Config}
 use Rattle.merlin_model.specs.Packets.{Packet}
-use Rattle.merlin_model.specs.declared.network.Wire.{Wire}
-use Rattle.merlin_model.specs.Networks.{Network, kind_of, IsHost, address_at, address_of, wires}
+use Rattle.merlin_model.specs.declared.network.DirectedLink.{DirectedLink}
+use Rattle.merlin_model.specs.Networks.{Network, kind_of, IsHost, address_at, address_of, directed_links}
 use Rattle.merlin_model.specs.Words.{Stop, functions_of, visits}
-use Rattle.merlin_model.specs.Machine.{Goes, Frame, Visit, End, Delivered, Stops, from_host, arrived_at, next_at, next, MayBecome, RunsWithin}
+use Rattle.merlin_model.specs.Machine.{Forwards, Frame, Visit, End, Delivered, Stops, from_host, arrived_at, next_at, next, MayBecome, RunsWithin}
 use Rattle.merlin_model.specs.Headline.{stop_of, stop_at}
 use Rattle.merlin_model.specs.Tests.{arrival}
 use Rattle.merlin_model.proofs.Traces.{Some-inj, within-stop, within-hop, within-more}
 use Rattle.rules_model.specs.Products.{queue_in, word_to, Vertex, loc_of}
-use Rattle.rules_model.specs.Tables.{functions_here, onward, Hop, HasTag, IsTagOn, place_of, IsHop, Row, IsRow}
+use Rattle.rules_model.specs.Tables.{functions_here, onward, Hop, HasTag, IsTagOn, onward_location, IsHop, TableRow, IsTableRow}
 use Rattle.merlin_model.proofs.Members.{in_from}
-use Rattle.merlin_model.proofs.Wires.{port_pos}
+use Rattle.merlin_model.proofs.DirectedLinks.{port_pos}
 use Rattle.rules_model.proofs.Setting.{Setting, routing, After}
 use Rattle.rules_model.proofs.Grouping.{stops_from, visits-route}
 use Rattle.rules_model.proofs.Steps.{tag-same, hop-at, follows-at, StandsAt, GoesBy, step}
@@ -80,20 +80,20 @@ module _ (setting : Setting) where
     pub address : HostAddress
     pub dest : address_of setting.net d ≡ Some address
     pub eth : f.packet.eth_dst ≡ address.eth
-    pub wire : Wire
-    pub came : Contains (wires setting.net) wire
-    pub to : wire.to ≡ f.loc
-    pub port : wire.in_port ≡ f.port
-    pub inner : ¬ IsHost setting.net wire.from
+    pub link : DirectedLink
+    pub came : Contains (directed_links setting.net) link
+    pub to : link.to ≡ f.loc
+    pub port : link.in_port ≡ f.port
+    pub inner : ¬ IsHost setting.net link.from
 
   -- a frame that takes the hop of a vertex goes on at the onward vertex, or is delivered
   pub go_on : (n : ℕ) (f : Frame) (g d : ℕ) (v : Vertex) (us : List Vertex) (hop : Hop) (visit : Visit) (address : HostAddress) → After setting g d v us → ¬ IsHost setting.net (loc_of v) →
-      IsHop setting.net setting.plan.tags g d v us hop → next setting.net setting.config f ≡ Goes hop.wire hop.tag visit → stop_of visit ≡ record { loc = loc_of v; functions = hop.functions } → visit.queue ≡ queue_in setting.groups g →
+      IsHop setting.net setting.plan.tags g d v us hop → next setting.net setting.config f ≡ Forwards hop.link hop.tag visit → stop_of visit ≡ record { loc = loc_of v; functions = hop.functions } → visit.queue ≡ queue_in setting.groups g →
       address_of setting.net d ≡ Some address → f.packet.eth_dst ≡ address.eth →
       ((next : Vertex × List Vertex) → onward (loc_of v) us ≡ Some next → (x : Frame) → Stands x g d next.0 next.1 → RunsWithin setting.net setting.config n x (IsDelivered d (queue_in setting.groups g) (visits (next.0.symbol ∷ word_to d next.1)))) →
       RunsWithin setting.net setting.config (suc n) f (IsDelivered d (queue_in setting.groups g) (visits (v.symbol ∷ word_to d us)))
   go_on n f g d v us hop visit address followed outside h goes at_stop through dest eth later =
-      within-hop setting.net setting.config n f hop.wire hop.tag visit (IsDelivered d (queue_in setting.groups g) (visits (v.symbol ∷ word_to d us))) goes
+      within-hop setting.net setting.config n f hop.link hop.tag visit (IsDelivered d (queue_in setting.groups g) (visits (v.symbol ∷ word_to d us))) goes
       (λ q may. on (onward (loc_of v) us) refl q (keeps_dst (kind_of setting.net f.loc) f.packet q may))
     where
       dest_host : IsHost setting.net d
@@ -110,28 +110,28 @@ module _ (setting : Setting) where
       whole rest e = ap₂ (λ x xs. x ∷ xs) stop e ∙ sym (visits-route d (loc_of v) v us refl apart)
 
       on : (o : Option (Vertex × List Vertex)) → onward (loc_of v) us ≡ o → (q : Packet) → q.eth_dst ≡ f.packet.eth_dst →
-          RunsWithin setting.net setting.config n (arrival hop.wire hop.tag q) (λ records end. IsDelivered d (queue_in setting.groups g) (visits (v.symbol ∷ word_to d us)) (visit ∷ records) end)
+          RunsWithin setting.net setting.config n (arrival hop.link hop.tag q) (λ records end. IsDelivered d (queue_in setting.groups g) (visits (v.symbol ∷ word_to d us)) (visit ∷ records) end)
       on None e q same =
           within-longer setting.net setting.config 0 n _ _ (omega arith)
-          (within-stop setting.net setting.config (arrival hop.wire hop.tag q) (Delivered d q) (λ records end. IsDelivered d (queue_in setting.groups g) (visits (v.symbol ∷ word_to d us)) (visit ∷ records) end)
-          (arrives setting.net setting.config (arrival hop.wire hop.tag q) d dest_host (h.ends ∙ ap (place_of d) e) (port_pos setting.net setting.network hop.wire h.present) (subst (λ o. IsTagOn setting.plan.tags g o hop.tag) e h.tag))
+          (within-stop setting.net setting.config (arrival hop.link hop.tag q) (Delivered d q) (λ records end. IsDelivered d (queue_in setting.groups g) (visits (v.symbol ∷ word_to d us)) (visit ∷ records) end)
+          (arrives setting.net setting.config (arrival hop.link hop.tag q) d dest_host (h.ends ∙ ap (onward_location d) e) (port_pos setting.net setting.network hop.link h.present) (subst (λ o. IsTagOn setting.plan.tags g o hop.tag) e h.tag))
           (q, refl, whole (stop_at d ∷ []) (ap (stops_from d) (sym e)), (through, tt)))
       on (Some next) e q same =
           let o : IsOnward g d (loc_of v) us next = onward-is g d (loc_of v) v us next followed e in
           let t : (n : ℕ) × HasTag setting.plan.tags g next.0 n × (hop.tag ≡ Some n) = subst (λ o. IsTagOn setting.plan.tags g o hop.tag) e h.tag in
-          within-more setting.net setting.config n (arrival hop.wire hop.tag q) (IsDelivered d (queue_in setting.groups g) (visits (next.0.symbol ∷ word_to d next.1))) (λ records end. IsDelivered d (queue_in setting.groups g) (visits (v.symbol ∷ word_to d us)) (visit ∷ records) end)
+          within-more setting.net setting.config n (arrival hop.link hop.tag q) (IsDelivered d (queue_in setting.groups g) (visits (next.0.symbol ∷ word_to d next.1))) (λ records end. IsDelivered d (queue_in setting.groups g) (visits (v.symbol ∷ word_to d us)) (visit ∷ records) end)
           (λ records end p. (p.0, p.1, whole (map stop_of records ++ stop_at d ∷ []) (p.2 ∙ ap (stops_from d) (sym e)), (through, p.3)))
-          (later next e (arrival hop.wire hop.tag q) (record {
+          (later next e (arrival hop.link hop.tag q) (record {
             followed = o.followed;
             outside = o.inside;
-            loc = h.ends ∙ ap (place_of d) e;
+            loc = h.ends ∙ ap (onward_location d) e;
             number = t.0;
             has_tag = t.1;
             tag = t.2;
             address = address;
             dest = dest;
             eth = same ∙ eth;
-            wire = hop.wire;
+            link = hop.link;
             came = h.present;
             to = refl;
             port = refl;
@@ -147,10 +147,10 @@ module _ (setting : Setting) where
       (hop-at setting found.0.group g found.0.dest d found.0.vertex v r.after us found.0.hop found.2 found.3 found.4 after r.hop)
       hop.goes (hop.stop ∙ (λ i. record { loc = loc_of (found.4 i); functions = found.0.hop.functions })) (hop.queue ∙ r.queue ∙ ap (queue_in setting.groups) found.2) at.dest at.eth later
     where
-      found : (row : Row) × Contains setting.plan.rows row × (row.group ≡ g) × (row.dest ≡ d) × (row.vertex ≡ v)
+      found : (row : TableRow) × Contains setting.plan.rows row × (row.group ≡ g) × (row.dest ≡ d) × (row.vertex ≡ v)
       found = setting.plan_is.each_row g d v us at.followed at.outside
 
-      r : IsRow setting.net setting.groups setting.plan found.0
+      r : IsTableRow setting.net setting.groups setting.plan found.0
       r = setting.plan_is.rows_are found.0 found.1
 
       after : r.after ≡ us
@@ -167,7 +167,7 @@ module _ (setting : Setting) where
         loc = at.loc ∙ ap loc_of (sym found.4);
         tag = at.tag ∙ ap Some (tag-same setting g v at.number found.0.tag at.has_tag tag_here);
         eth = at.eth ∙ ap (λ a. a.eth) address-same ∙ sym r.eth;
-        wire = at.wire;
+        link = at.link;
         came = at.came;
         to = at.to;
         port = at.port;

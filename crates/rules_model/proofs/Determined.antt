@@ -5,8 +5,8 @@ use Rattle.merlin_model.specs.Machine.{first_of}
 use Rattle.merlin_model.proofs.Ascending.{ascending-one}
 use Rattle.merlin_model.proofs.Members.{In, in_from, in_to}
 use Rattle.merlin_model.proofs.Traces.{Some-inj}
-use Rattle.rules_model.specs.Products.{Vertex, loc_of, start_of, IsWay, Written, IsWritten, FollowsIn, IsOpenIn, Group, AreWritten, FollowsAt, IsOpenAt, start_at, start_in, queue_in}
-use Rattle.rules_model.specs.Tables.{Key, HasTag, Hop, IsHop, Row, Pair, IsPair, Entry, Plan, Cell, IsRow, IsEntry, IsFirstHop, IsPlan, IsBelowKey, IsBelowRow, owned_by, IsInOrder, table_rules, table_processes}
+use Rattle.rules_model.specs.Products.{Vertex, loc_of, start_of, LeadsToEnd, WrittenWalk, IsWrittenWalk, FollowsIn, AllowsWalkIn, Group, AreWrittenWalks, FollowsAt, AllowsWalkAt, start_at, start_in, queue_in}
+use Rattle.rules_model.specs.Tables.{TagKey, HasTag, Hop, IsHop, TableRow, HostPair, IsHostPair, IngressEntry, Plan, Cell, IsTableRow, IsIngressEntry, IsFirstHop, IsPlan, IsBelowKey, IsBelowRow, owned_by, IsInOrder, table_rules, table_processes}
 use Rattle.rules_model.proofs.Routes.{one_from_host}
 use Rattle.rules_model.proofs.Setting.{Setting, routing}
 use Rattle.rules_model.proofs.Steps.{tag-same, row-one, hop-same}
@@ -14,12 +14,12 @@ use Rattle.rules_model.proofs.Trees.{tree-way, after-in}
 
 -- Orders.
 
-key-irreflexive : (x : Key) → ¬ IsBelowKey x x
+key-irreflexive : (x : TagKey) → ¬ IsBelowKey x x
 key-irreflexive x (inl h) = omega arith
 key-irreflexive x (inr (e, inl h)) = omega arith
 key-irreflexive x (inr (e, inr (f, h))) = omega arith
 
-key-transitive : (x y z : Key) → IsBelowKey x y → IsBelowKey y z → IsBelowKey x z
+key-transitive : (x y z : TagKey) → IsBelowKey x y → IsBelowKey y z → IsBelowKey x z
 key-transitive x y z (inl a) (inl b) = inl (omega arith)
 key-transitive x y z (inl a) (inr b) = inl (let e = b.0 in omega arith)
 key-transitive x y z (inr a) (inl b) = inl (let e = a.0 in omega arith)
@@ -28,12 +28,12 @@ key-transitive x y z (inr (e, inl a)) (inr (f, inr b)) = inr (e ∙ f, inl (let 
 key-transitive x y z (inr (e, inr a)) (inr (f, inl b)) = inr (e ∙ f, inl (let g = a.0 in omega arith))
 key-transitive x y z (inr (e, inr a)) (inr (f, inr b)) = inr (e ∙ f, inr (a.0 ∙ b.0, (let m = a.1 in let n = b.1 in omega arith)))
 
-row-irreflexive : (x : Row) → ¬ IsBelowRow x x
+row-irreflexive : (x : TableRow) → ¬ IsBelowRow x x
 row-irreflexive x (inl h) = omega arith
 row-irreflexive x (inr (e, inl h)) = omega arith
 row-irreflexive x (inr (e, inr (f, h))) = omega arith
 
-row-transitive : (x y z : Row) → IsBelowRow x y → IsBelowRow y z → IsBelowRow x z
+row-transitive : (x y z : TableRow) → IsBelowRow x y → IsBelowRow y z → IsBelowRow x z
 row-transitive x y z (inl a) (inl b) = inl (omega arith)
 row-transitive x y z (inl a) (inr b) = inl (let e = b.0 in omega arith)
 row-transitive x y z (inr a) (inl b) = inl (let e = a.0 in omega arith)
@@ -60,12 +60,12 @@ map-one f (x ∷ xs) (y ∷ ys) e one = ap₂ (λ a b. a ∷ b) (one x y (inl re
 
 -- What follows the start of a host shows that some walk is allowed.
 module _ (net : Network) where
-  way-inside : (a : _) (d : ℕ) (v : Vertex) (us : List Vertex) → IsWay net a d v us → (x : Vertex) → In x us → IsHost net (loc_of x) → ⊥
+  way-inside : (a : _) (d : ℕ) (v : Vertex) (us : List Vertex) → LeadsToEnd net a d v us → (x : Vertex) → In x us → IsHost net (loc_of x) → ⊥
   way-inside a d v [] way x h host = absurd h
   way-inside a d v (u ∷ us) way x (inl e) host = way.0.inside (subst (λ y. IsHost net (loc_of y)) e host)
   way-inside a d v (u ∷ us) way x (inr h) host = way-inside a d u us way.1 x h host
 
-  opens-in : (a : _) (o : Option Written) → ((w : Written) → o ≡ Some w → IsWritten net a w) → (s d : ℕ) (us : List Vertex) → IsHost net s → FollowsIn net a o d (start_of a s) us → IsOpenIn net a o s d
+  opens-in : (a : _) (o : Option WrittenWalk) → ((w : WrittenWalk) → o ≡ Some w → IsWrittenWalk net a w) → (s d : ℕ) (us : List Vertex) → IsHost net s → FollowsIn net a o d (start_of a s) us → AllowsWalkIn net a o s d
   opens-in a None ok s d us host h = (us, tree-way net a d (start_of a s) us h.tree)
   opens-in a (Some w) ok s d us host h = (by (after-in (start_of a w.source ∷ w.after) (start_of a s) us h.1), h.0)
     where
@@ -73,11 +73,11 @@ module _ (net : Network) where
       by (inl e) = ap loc_of e
       by (inr i) = absurd (way-inside a w.dest (start_of a w.source) w.after (ok w refl).way (start_of a s) i host)
 
-  opens-at : (o : Option Group) → ((g : Group) (w : Written) → o ≡ Some g → g.written ≡ Some w → IsWritten net g.automaton w) → (s d : ℕ) (us : List Vertex) → IsHost net s → FollowsAt net o d (start_at o s) us → IsOpenAt net o s d
+  opens-at : (o : Option Group) → ((g : Group) (w : WrittenWalk) → o ≡ Some g → g.written ≡ Some w → IsWrittenWalk net g.automaton w) → (s d : ℕ) (us : List Vertex) → IsHost net s → FollowsAt net o d (start_at o s) us → AllowsWalkAt net o s d
   opens-at None ok s d us host h = absurd h
   opens-at (Some g) ok s d us host h = opens-in g.automaton g.written (λ w e. ok g w refl e) s d us host h
 
-module _ (net : Network) (ok : IsNetwork net) (groups : List Group) (written_are : AreWritten net groups) (cells : ℕ → ℕ → List (Cell × ℕ)) where
+module _ (net : Network) (ok : IsNetwork net) (groups : List Group) (written_are : AreWrittenWalks net groups) (cells : ℕ → ℕ → List (Cell × ℕ)) where
   abbrev setting_of : (p : Plan) → IsPlan net groups p → Setting
   setting_of p is = record {
     net = net;
@@ -97,7 +97,7 @@ module _ (net : Network) (ok : IsNetwork net) (groups : List Group) (written_are
       (λ k h. in_from p.tags k ((a.tags_are k).1 ((b.tags_are k).0 (in_to q.tags k h))))
 
   -- a row of one plan is a row by the tags of the other
-  row-by : (p q : Plan) → p.tags ≡ q.tags → (row : Row) → IsRow net groups q row → IsRow net groups p row
+  row-by : (p q : Plan) → p.tags ≡ q.tags → (row : TableRow) → IsTableRow net groups q row → IsTableRow net groups p row
   row-by p q e row r = record {
     after = r.after;
     followed = r.followed;
@@ -110,16 +110,16 @@ module _ (net : Network) (ok : IsNetwork net) (groups : List Group) (written_are
     queue = r.queue;
   }
 
-  rows-in : (p q : Plan) → IsPlan net groups p → IsPlan net groups q → p.tags ≡ q.tags → (x : Row) → In x p.rows → In x q.rows
+  rows-in : (p q : Plan) → IsPlan net groups p → IsPlan net groups q → p.tags ≡ q.tags → (x : TableRow) → In x p.rows → In x q.rows
   rows-in p q ip iq e x i = subst (λ y. In y q.rows) (sym same) (in_from q.rows found.0 found.1)
     where
-      rx : IsRow net groups p x
+      rx : IsTableRow net groups p x
       rx = ip.rows_are x (in_to p.rows x i)
 
-      found : (row : Row) × Contains q.rows row × (row.group ≡ x.group) × (row.dest ≡ x.dest) × (row.vertex ≡ x.vertex)
+      found : (row : TableRow) × Contains q.rows row × (row.group ≡ x.group) × (row.dest ≡ x.dest) × (row.vertex ≡ x.vertex)
       found = iq.each_row x.group x.dest x.vertex rx.after rx.followed rx.outside
 
-      ry : IsRow net groups p found.0
+      ry : IsTableRow net groups p found.0
       ry = row-by p q e found.0 (iq.rows_are found.0 found.1)
 
       tag : x.tag ≡ found.0.tag
@@ -141,8 +141,8 @@ module _ (net : Network) (ok : IsNetwork net) (groups : List Group) (written_are
       let hop : IsHop net p.tags g d h.0 h.1 y = subst (λ T. T) (λ i. IsHop net (sym tags i) g d (sym (cons-head us) i) (ap tail_of (sym us) i) y) k.3 in
       ap Some (hop-same (setting_of p ip) g d h.0 h.1 x y h.3 hop)
 
-  pair-same : (x y : Pair) → IsPair net x → IsPair net y → x.source ≡ y.source → x.dest ≡ y.dest → x ≡ y
-  pair-same x y px py source dest = λ i. record { source = source i; dest = dest i; from = from i; to = to i; wire = wire i }
+  pair-same : (x y : HostPair) → IsHostPair net x → IsHostPair net y → x.source ≡ y.source → x.dest ≡ y.dest → x ≡ y
+  pair-same x y px py source dest = λ i. record { source = source i; dest = dest i; from = from i; to = to i; link = link i }
     where
       from : x.from ≡ y.from
       from = Some-inj (sym px.source ∙ ap (address_of net) source ∙ py.source)
@@ -150,10 +150,10 @@ module _ (net : Network) (ok : IsNetwork net) (groups : List Group) (written_are
       to : x.to ≡ y.to
       to = Some-inj (sym px.dest ∙ ap (address_of net) dest ∙ py.dest)
 
-      wire : x.wire ≡ y.wire
-      wire = one_from_host net ok x.wire y.wire px.present py.present (subst (IsHost net) (sym px.starts) (ap is_some px.source)) (px.starts ∙ source ∙ sym py.starts)
+      link : x.link ≡ y.link
+      link = one_from_host net ok x.link y.link px.present py.present (subst (IsHost net) (sym px.starts) (ap is_some px.source)) (px.starts ∙ source ∙ sym py.starts)
 
-  entry-same : (p q : Plan) → IsPlan net groups p → p.tags ≡ q.tags → (x y : Entry) → IsEntry net groups p x → IsEntry net groups q y → owned_by x ≡ owned_by y → x ≡ y
+  pub entry-same : (p q : Plan) → IsPlan net groups p → p.tags ≡ q.tags → (x y : IngressEntry) → IsIngressEntry net groups p x → IsIngressEntry net groups q y → owned_by x ≡ owned_by y → x ≡ y
   entry-same p q ip tags x y ex ey same = λ i. record { pair = pair i; cell = (same i).cell; group = (same i).group; queue = queue i; hop = hop i }
     where
       pair : x.pair ≡ y.pair

@@ -1,5 +1,5 @@
 -- The policy that allows every way reserves nothing and caps nothing.
-use Rattle.std.proofs.Common.{◌≡◌, ℕ, ◌<◌, ◌*◌, ◌==◌, ◌&&◌, List, [], ◌∷◌, Contains, filter, AllPairs, sym, ap, subst, arith}
+use Rattle.std.proofs.Common.{◌≡◌, ℕ, ◌<◌, ◌*◌, ◌==◌, ◌&&◌, List, [], ◌∷◌, Contains, filter, AllPairs, Some, slice_get, sym, ap, subst, arith}
 use Rattle.std.specs.List.{sum_by}
 use Rattle.merlin_model.specs.declared.policy.Symbol.{Symbol}
 use Rattle.merlin_model.specs.declared.policy.Objective.{Objective}
@@ -7,9 +7,11 @@ use Rattle.merlin_model.specs.declared.policy.Value.{Value}
 use Rattle.merlin_model.specs.declared.policy.Value.TheVariants.{Whole, Ratio}
 use Rattle.merlin_model.specs.declared.config.Queue.{Queue}
 use Rattle.merlin_model.specs.declared.config.Config.{Config}
-use Rattle.merlin_model.specs.Networks.{Network, wires}
+use Rattle.merlin_model.specs.Networks.{Network, directed_links}
 use Rattle.merlin_model.specs.Assignments.{AreAllEnds, IsAssignment, IsFeasible, IsLeast, IsSmaller, value_of}
-use Rattle.merlin_model.specs.Headline.{MeetsGuarantees, KeepsCaps}
+use Rattle.merlin_model.specs.Headline.{MeetsGuarantees, KeepsCaps, HasOneLinePerClass}
+use Rattle.merlin_model.specs.Results.{IsAcceptedPolicy}
+use Rattle.merlin_model.specs.declared.config.HostLine.TheVariants.{Class}
 use Rattle.rules_model.specs.Plain.{any_path_policy}
 use Rattle.rules_model.proofs.Pieces.{all-from}
 use Rattle.rules_model.proofs.Absurd.{None-Some}
@@ -21,7 +23,7 @@ pub no_ends : (net : Network) → AreAllEnds net any_path_policy []
 no_ends net = record { ascending = λ k h. let no_way : ⊥ = omega arith in absurd no_way; each = tt; all = λ i h. absurd (no_less 0 h) }
 
 feasible : (net : Network) → IsFeasible net any_path_policy [] []
-feasible net = all-from _ (wires net) (λ wire i. omega arith)
+feasible net = all-from _ (directed_links net) (λ link i. omega arith)
 
 not_smaller : (v : Value) → IsSmaller v v → ⊥
 not_smaller (Whole a) h = no_less a h
@@ -41,7 +43,7 @@ pub nothing-reserved : (net : Network) (config : Config) → config.queues ≡ [
 nothing-reserved net config none = record {
   lines = λ q. (λ c. absurd (empty q (subst (λ qs. Contains qs q) none c)), λ r. absurd (None-Some r.statement));
   once = subst (λ qs. AllPairs (λ q r. q ≡ r → ⊥) qs) (sym none) (λ i j d lt le e. let no_way : ⊥ = omega arith in no_way);
-  loads = all-from _ (wires net) (λ wire i. ap (λ qs. sum_by (λ q. q.rate) (filter (λ q. (q.loc == wire.from) && (q.port == wire.out_port)) qs)) none);
+  loads = all-from _ (directed_links net) (λ link i. ap (λ qs. sum_by (λ q. q.rate) (filter (λ q. (q.loc == link.from) && (q.port == link.out_port)) qs)) none);
   feasible = feasible net;
   taken = λ s p k e valid allowed at. absurd (None-Some at);
 }
@@ -54,3 +56,15 @@ nothing-capped net config = record {
   sums = λ i cap hosts capped. absurd (None-Some capped);
   classed = λ s p c valid allowed share. absurd (None-Some share.capped);
 }
+
+pub accepted : (net : Network) → IsAcceptedPolicy net any_path_policy []
+accepted net = record {
+  disjoint = λ p i j s t valid at. absurd (None-Some at);
+  total = λ p valid. omega arith;
+  room = λ i cap capped. absurd (None-Some capped);
+  ends_are = no_ends net;
+}
+
+pub no_classes : (config : Config) → config.hosts ≡ [] → HasOneLinePerClass config
+no_classes config none i j s x rate ceil rate' ceil' at at' =
+    absurd (None-Some (subst (λ hosts. slice_get hosts i ≡ Some (Class s x rate ceil)) none at))

@@ -3,19 +3,19 @@ use Rattle.std.proofs.Common.{◌≡◌, ℕ, zero, suc, ◌<◌, ◌==◌, inl,
 use Rattle.std.proofs.lemmas.Bool.{eq-eqb, eqb-true}
 use Rattle.std.proofs.lemmas.List.{map-append}
 use Rattle.std.specs.List.{AllByRecursion, flat_map, range_with_len, cons_option}
-use Rattle.merlin_model.specs.declared.network.Wire.{Wire}
+use Rattle.merlin_model.specs.declared.network.DirectedLink.{DirectedLink}
 use Rattle.merlin_model.specs.declared.network.HostAddress.{HostAddress}
 use Rattle.merlin_model.specs.Networks.{Network, kind_of, address_of, IsNetwork, Pairwise}
-use Rattle.merlin_model.specs.Machine.{wire_of}
+use Rattle.merlin_model.specs.Machine.{uplink_of}
 use Rattle.merlin_model.specs.Tests.{HasNoMiddlebox}
 use Rattle.merlin_model.proofs.Members.{In, in_from, in_to, all_in, in_flat_map}
 use Rattle.merlin_model.proofs.Traces.{Some-inj}
-use Rattle.rules_model.specs.declared.station.Station.{Station}
+use Rattle.rules_model.specs.declared.attached_host.AttachedHost.{AttachedHost}
 use Rattle.rules_model.specs.Products.{loc_of, TreeFollows, IsVertex}
-use Rattle.rules_model.specs.Tables.{Key, key_of, Row, is_switch, is_host, hosts_of, switches_of, IsBelowKey, IsBelowRow, IsKey, Owned, owned_by, all_owned, IsInOrder, IsRow, IsPlan, Plan}
-use Rattle.rules_model.specs.Plain.{IsRouting, station_by, station_at, stations, vertex_at, whole, any_automaton, any_groups, whole_cells, row_over, rows_at, rows_towards, entry_between, entries_from}
+use Rattle.rules_model.specs.Tables.{TagKey, tag_key_of, TableRow, is_switch_kind, is_host_kind, all_hosts, all_switches, IsBelowKey, IsBelowRow, IsTagKey, Owned, owned_by, all_owned, IsInOrder, IsTableRow, IsPlan, Plan}
+use Rattle.rules_model.specs.Plain.{IsRouting, attached_host_by, attached_host_at, attached_hosts, vertex_at, whole, any_automaton, any_groups, whole_cells, row_over, rows_at, rows_towards, entry_between, entries_from}
 use Rattle.rules_model.proofs.Pieces.{all-from, flat_map-same, filter-up, range-up}
-use Rattle.rules_model.proofs.PlainPlan.{the_key, tags_for, tags_for-some, plain_plan, HasStation, station-of, Makes, row-makes, row-towards, rows-up, row-loc, station-is}
+use Rattle.rules_model.proofs.PlainPlan.{the_key, tags_for, tags_for-some, plain_plan, HasAttachedHost, attached_host-of, Makes, row-makes, row-towards, rows-up, row-loc, attached_host-is}
 use Rattle.rules_model.proofs.Trees.{tree-way}
 use Rattle.rules_model.proofs.Determined.{plan-one}
 use Rattle.rules_model.proofs.PlainPromise.{none_written, plan-ok, StandsAt, stands-at, row-ok}
@@ -46,36 +46,36 @@ pieces-map : {X A B : Type 0} (f : A → List B) (g : X → A) (xs : List X) →
 pieces-map f g [] = refl
 pieces-map f g (x ∷ xs) = ap (λ ys. f (g x) ++ ys) (pieces-map f g xs)
 
--- the hosts are the locations of the stations
+-- the hosts are the locations of the attached hosts
 module _ (net : Network) (ok : IsNetwork net) where
-  hosts-here : (ks : List ℕ) → filter (λ loc. is_host (kind_of net loc)) ks ≡ map (λ x. x.loc) (filter_map (station_at net) ks)
+  hosts-here : (ks : List ℕ) → filter (λ loc. is_host_kind (kind_of net loc)) ks ≡ map (λ x. x.loc) (filter_map (attached_host_at net) ks)
   hosts-here [] = refl
-  hosts-here (k ∷ ks) = by (is_host (kind_of net k)) refl (hosts-here ks)
+  hosts-here (k ∷ ks) = by (is_host_kind (kind_of net k)) refl (hosts-here ks)
     where
-      off : (a : Option HostAddress) (w : Option Wire) → is_some a ≡ false → station_by k a w ≡ None
+      off : (a : Option HostAddress) (w : Option DirectedLink) → is_some a ≡ false → attached_host_by k a w ≡ None
       off None w e = refl
       off (Some a) w e = let no_way : ⊥ = cc in absurd no_way
 
-      on : (st : Station) → st.loc ≡ k → (o : Option Station) → o ≡ Some st → k ∷ map (λ x. x.loc) (filter_map (station_at net) ks) ≡ map (λ x. x.loc) (cons_option o (filter_map (station_at net) ks))
+      on : (st : AttachedHost) → st.loc ≡ k → (o : Option AttachedHost) → o ≡ Some st → k ∷ map (λ x. x.loc) (filter_map (attached_host_at net) ks) ≡ map (λ x. x.loc) (cons_option o (filter_map (attached_host_at net) ks))
       on st e None f = let no_way : ⊥ = cc in absurd no_way
-      on st e (Some other) f = ap (λ l. l ∷ map (λ x. x.loc) (filter_map (station_at net) ks)) (sym e ∙ ap (λ x. x.loc) (sym (Some-inj f)))
+      on st e (Some other) f = ap (λ l. l ∷ map (λ x. x.loc) (filter_map (attached_host_at net) ks)) (sym e ∙ ap (λ x. x.loc) (sym (Some-inj f)))
 
-      by : (b : Bool) → is_host (kind_of net k) ≡ b → filter (λ loc. is_host (kind_of net loc)) ks ≡ map (λ x. x.loc) (filter_map (station_at net) ks) →
-          cond b (k ∷ filter (λ loc. is_host (kind_of net loc)) ks) (filter (λ loc. is_host (kind_of net loc)) ks) ≡ map (λ x. x.loc) (cons_option (station_at net k) (filter_map (station_at net) ks))
+      by : (b : Bool) → is_host_kind (kind_of net k) ≡ b → filter (λ loc. is_host_kind (kind_of net loc)) ks ≡ map (λ x. x.loc) (filter_map (attached_host_at net) ks) →
+          cond b (k ∷ filter (λ loc. is_host_kind (kind_of net loc)) ks) (filter (λ loc. is_host_kind (kind_of net loc)) ks) ≡ map (λ x. x.loc) (cons_option (attached_host_at net k) (filter_map (attached_host_at net) ks))
       by true e ih =
-          let st : HasStation net ok k = station-of net ok k e in
-          ap (λ l. k ∷ l) ih ∙ on st.station st.here (station_at net k) (ap (station_at net) (sym st.here) ∙ (station-is net st.station st.among).itself)
-      by false e ih = ih ∙ ap (λ o. map (λ x. x.loc) (cons_option o (filter_map (station_at net) ks))) (sym (off (address_of net k) (wire_of net k) e))
+          let st : HasAttachedHost net ok k = attached_host-of net ok k e in
+          ap (λ l. k ∷ l) ih ∙ on st.attached_host st.here (attached_host_at net k) (ap (attached_host_at net) (sym st.here) ∙ (attached_host-is net st.attached_host st.among).itself)
+      by false e ih = ih ∙ ap (λ o. map (λ x. x.loc) (cons_option o (filter_map (attached_host_at net) ks))) (sym (off (address_of net k) (uplink_of net k) e))
 
-  hosts-are : hosts_of net ≡ map (λ x. x.loc) (stations net)
+  hosts-are : all_hosts net ≡ map (λ x. x.loc) (attached_hosts net)
   hosts-are = hosts-here (range_with_len 0 (length net.locations))
 
-module _ (net : Network) (ok : IsNetwork net) (flat : HasNoMiddlebox net) (next : ℕ → ℕ → Option Wire) (routes : IsRouting net next) where
+module _ (net : Network) (ok : IsNetwork net) (flat : HasNoMiddlebox net) (next : ℕ → ℕ → Option DirectedLink) (routes : IsRouting net next) where
   -- one pair of hosts
   abbrev owned_between : ℕ → ℕ → List Owned
   owned_between s d = cond (s == d) [] (map (λ c. record { source = s; dest = d; cell = c.0; group = c.1 }) (whole_cells s d))
 
-  owned-from : (s : Station) (ds : List Station) → map owned_by (map (entry_between net next s) (filter (λ d. not (d.loc == s.loc)) ds)) ≡ flat_map (λ d. owned_between s.loc d.loc) ds
+  owned-from : (s : AttachedHost) (ds : List AttachedHost) → map owned_by (map (entry_between net next s) (filter (λ d. not (d.loc == s.loc)) ds)) ≡ flat_map (λ d. owned_between s.loc d.loc) ds
   owned-from s [] = refl
   owned-from s (d ∷ ds) = by (d.loc == s.loc) refl (s.loc == d.loc) refl (owned-from s ds)
     where
@@ -89,20 +89,20 @@ module _ (net : Network) (ok : IsNetwork net) (flat : HasNoMiddlebox net) (next 
 
   entries-are : map owned_by (plain_plan net next).entries ≡ all_owned net whole_cells
   entries-are =
-      map-pieces owned_by (entries_from net next) (stations net)
-      ∙ flat_map-same (λ s. map owned_by (entries_from net next s)) (λ s. flat_map (owned_between s.loc) (hosts_of net)) (stations net)
-      (λ s i. owned-from s (stations net) ∙ sym (pieces-map (owned_between s.loc) (λ x. x.loc) (stations net)) ∙ ap (flat_map (owned_between s.loc)) (sym (hosts-are net ok)))
-      ∙ sym (pieces-map (λ s. flat_map (owned_between s) (hosts_of net)) (λ x. x.loc) (stations net))
-      ∙ ap (flat_map (λ s. flat_map (owned_between s) (hosts_of net))) (sym (hosts-are net ok))
+      map-pieces owned_by (entries_from net next) (attached_hosts net)
+      ∙ flat_map-same (λ s. map owned_by (entries_from net next s)) (λ s. flat_map (owned_between s.loc) (all_hosts net)) (attached_hosts net)
+      (λ s i. owned-from s (attached_hosts net) ∙ sym (pieces-map (owned_between s.loc) (λ x. x.loc) (attached_hosts net)) ∙ ap (flat_map (owned_between s.loc)) (sym (hosts-are net ok)))
+      ∙ sym (pieces-map (λ s. flat_map (owned_between s) (all_hosts net)) (λ x. x.loc) (attached_hosts net))
+      ∙ ap (flat_map (λ s. flat_map (owned_between s) (all_hosts net))) (sym (hosts-are net ok))
 
   -- rows by location and destination
   rows-in-order : Pairwise IsBelowRow (plain_plan net next).rows
-  rows-in-order = pieces-up (λ k l. k < l) IsBelowRow (rows_at net next) (switches_of net)
-      (filter-up (λ k l. k < l) (λ loc. is_switch (kind_of net loc)) (range_with_len 0 (length net.locations)) (range-up 0 (length net.locations)))
+  rows-in-order = pieces-up (λ k l. k < l) IsBelowRow (rows_at net next) (all_switches net)
+      (filter-up (λ k l. k < l) (λ loc. is_switch_kind (kind_of net loc)) (range_with_len 0 (length net.locations)) (range-up 0 (length net.locations)))
       (λ v i. at v)
       (λ v w a b lt i j. let la = row-loc net next v a i in let lb = row-loc net next w b j in inl (omega arith))
     where
-      below : (v : ℕ) (rows : List Row) → ((row : Row) → In row rows → (loc_of row.vertex ≡ v) × (row.tag ≡ 1)) → Pairwise (λ a b. a.dest < b.dest) rows → Pairwise IsBelowRow rows
+      below : (v : ℕ) (rows : List TableRow) → ((row : TableRow) → In row rows → (loc_of row.vertex ≡ v) × (row.tag ≡ 1)) → Pairwise (λ a b. a.dest < b.dest) rows → Pairwise IsBelowRow rows
       below v [] same up = tt
       below v (row ∷ rows) same up = (
         all-from (IsBelowRow row) rows (λ other i. inr (
@@ -120,47 +120,47 @@ module _ (net : Network) (ok : IsNetwork net) (flat : HasNoMiddlebox net) (next 
           by false = below v (rows_towards net next v) (λ row i. let m = row-makes net next v row i in (ap (λ r. loc_of r.vertex) m.is, ap (λ r. r.tag) m.is)) (rows-up net next v)
 
   -- the one tag stands where some switch stands in a product
-  tags-in-order : (rows : List Row) → Pairwise IsBelowKey (tags_for rows)
+  tags-in-order : (rows : List TableRow) → Pairwise IsBelowKey (tags_for rows)
   tags-in-order [] = tt
   tags-in-order (row ∷ rows) = (tt, tt)
 
-  key-of-row : (row : Row) → In row (plain_plan net next).rows → IsKey net any_groups the_key
+  key-of-row : (row : TableRow) → In row (plain_plan net next).rows → IsTagKey net any_groups the_key
   key-of-row row i = record {
-    dest = made.station.loc;
+    dest = made.attached_host.loc;
     vertex = vertex_at at.0;
-    stands = (r.source, r.host, r.dest_host, r.other, record { before = r.path; reached = r.reached; after = o.after; leads = tree-way net any_automaton made.station.loc (vertex_at at.0) o.after r.tree });
+    stands = (r.source, r.host, r.dest_host, r.other, record { before = r.path; reached = r.reached; after = o.after; leads = tree-way net any_automaton made.attached_host.loc (vertex_at at.0) o.after r.tree });
     outside = o.outside;
     is = refl;
   }
     where
-      at : (v : ℕ) × In v (switches_of net) × In row (rows_at net next v)
-      at = in_flat_map (rows_at net next) (switches_of net) row i
+      at : (v : ℕ) × In v (all_switches net) × In row (rows_at net next v)
+      at = in_flat_map (rows_at net next) (all_switches net) row i
 
       made : Makes net next at.0 row
       made = row-makes net next at.0 row (row-towards net next at.0 row at.2).0
 
-      o : IsRow net any_groups (plain_plan net next) (row_over net next at.0 made.station made.wire)
-      o = subst (IsRow net any_groups (plain_plan net next)) made.is (row-ok net ok flat next routes row i)
+      o : IsTableRow net any_groups (plain_plan net next) (row_over net next at.0 made.attached_host made.link)
+      o = subst (IsTableRow net any_groups (plain_plan net next)) made.is (row-ok net ok flat next routes row i)
 
-      r : TreeFollows net any_automaton made.station.loc (vertex_at at.0) o.after
+      r : TreeFollows net any_automaton made.attached_host.loc (vertex_at at.0) o.after
       r = o.followed
 
-  key-from : (key : Key) → Contains (plain_plan net next).tags key → IsKey net any_groups key
+  key-from : (key : TagKey) → Contains (plain_plan net next).tags key → IsTagKey net any_groups key
   key-from key c = by (plain_plan net next).rows key-of-row (in_from (plain_plan net next).tags key c)
     where
-      by : (rows : List Row) → ((row : Row) → In row rows → IsKey net any_groups the_key) → In key (tags_for rows) → IsKey net any_groups key
+      by : (rows : List TableRow) → ((row : TableRow) → In row rows → IsTagKey net any_groups the_key) → In key (tags_for rows) → IsTagKey net any_groups key
       by [] each i = absurd i
       by (row ∷ rows) each (inr i) = absurd i
-      by (row ∷ rows) each (inl e) = subst (IsKey net any_groups) (sym e) (each row (inl refl))
+      by (row ∷ rows) each (inl e) = subst (IsTagKey net any_groups) (sym e) (each row (inl refl))
 
-  key-to : (key : Key) → IsKey net any_groups key → Contains (plain_plan net next).tags key
+  key-to : (key : TagKey) → IsTagKey net any_groups key → Contains (plain_plan net next).tags key
   key-to key h = by key.group refl h.stands
     where
       by : (g : ℕ) → key.group ≡ g → IsVertex net any_groups g h.dest h.vertex → Contains (plain_plan net next).tags key
       by (suc g) e stands = absurd stands
       by zero e stands =
           let at : StandsAt net ok flat next routes h.dest h.vertex = stands-at net ok flat next routes stands.0 h.dest h.vertex stands.4.before stands.4.after stands.1 stands.2 stands.3 stands.4.reached stands.4.leads h.outside in
-          let same : key ≡ the_key = h.is ∙ (λ i. key_of (e i) (at.vertex i)) in
+          let same : key ≡ the_key = h.is ∙ (λ i. tag_key_of (e i) (at.vertex i)) in
           in_to (plain_plan net next).tags key (subst (In key) (sym (tags_for-some (plain_plan net next).rows at.row.row at.row.among)) (inl same))
 
   pub in-order : IsInOrder net any_groups whole_cells (plain_plan net next)

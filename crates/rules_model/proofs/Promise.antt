@@ -13,14 +13,14 @@ use Rattle.merlin_model.specs.Policies.{Policy, match_of, IsAllowed}
 use Rattle.merlin_model.specs.Rates.{IsShareAt, IsGuaranteed}
 use Rattle.merlin_model.specs.Machine.{start, Visit, End, Dropped, EachRun, is_dropped_by}
 use Rattle.merlin_model.specs.Headline.{stop_of, FollowsWalk, HasAllowed, IsDroppedAtHost, IsDroppedAtSwitch, HasRoom, IsWalkOf, DeliversPackets}
-use Rattle.merlin_model.specs.Words.{GoesOn, WalksFrom}
+use Rattle.merlin_model.specs.Words.{GoesOn, WalksFrom, IsWalk}
 use Rattle.merlin_model.proofs.Traces.{Some-inj, within-stop, within-more}
 use Rattle.merlin_model.proofs.WordLaws.{walk-goes_on, goes_on-walk}
-use Rattle.rules_model.specs.Products.{word_to, state_after, Vertex, start_of, IsWay, TreeFollows, IsAfter, Written, word_of, IsWritten, FollowsIn, IsOpenIn, Group, FollowsAt, IsOpenAt, start_at, queue_at, Follows, start_in, IsOpen}
+use Rattle.rules_model.specs.Products.{word_to, ending_state, Vertex, start_of, LeadsToEnd, TreeFollows, IsFollowedBy, WrittenWalk, written_word, IsWrittenWalk, FollowsIn, AllowsWalkIn, Group, FollowsAt, AllowsWalkAt, start_at, queue_at, Follows, start_in, AllowsWalk}
 use Rattle.rules_model.specs.Tables.{Plan}
 use Rattle.rules_model.specs.Promise.{HasGroup, IsThrough, IsCompiled}
 use Rattle.rules_model.proofs.Setting.{Setting, starts_at}
-use Rattle.rules_model.proofs.Ingress.{wire_of_host, host_visit, host_drops, improper_dropped, IsSent, delivered, dropped}
+use Rattle.rules_model.proofs.Ingress.{uplink_of_host, host_visit, host_drops, improper_dropped, IsSent, delivered, dropped}
 use Rattle.rules_model.proofs.Trees.{tree-way, tree-shortest, after-unique, host_symbol}
 use Rattle.rules_model.proofs.Ways.{way-goes_on, way-accepts, HasShort, word-way}
 use Rattle.rules_model.proofs.Absurd.{None-Some}
@@ -47,25 +47,26 @@ module _ (net : Network) (policy : Policy) (ends : List Ends) (walks : List (Lis
   one_dest s d e p x y = c.network.addresses e d _ _ y.destination x.destination (inl refl)
 
   -- the word of a way is allowed
-  way-allowed : (s d : ℕ) (p : Packet) (hg : GroupOf p) (us : List Vertex) → IsPacket p → IsProper net p s d → IsWay net hg.group.automaton d (start_of hg.group.automaton s) us → IsAllowed net policy p s (at s ∷ word_to d us)
+  way-allowed : (s d : ℕ) (p : Packet) (hg : GroupOf p) (us : List Vertex) → IsPacket p → IsProper net p s d → LeadsToEnd net hg.group.automaton d (start_of hg.group.automaton s) us → IsAllowed net policy p s (at s ∷ word_to d us)
   way-allowed s d p hg us valid proper way =
+      let walked : IsWalk net s d (at s ∷ word_to d us) = goes_on-walk net s d (at s ∷ word_to d us) (
+        refl,
+        host_symbol net s (host_of s d p proper),
+        host_of s d p proper,
+        dest_of s d p proper,
+        way-goes_on net hg.group.automaton d (start_of hg.group.automaton s) us (dest_of s d p proper) way,
+      ) in
       record {
         to = d;
         proper = proper;
-        walk = goes_on-walk net s d (at s ∷ word_to d us) (
-          refl,
-          host_symbol net s (host_of s d p proper),
-          host_of s d p proper,
-          dest_of s d p proper,
-          way-goes_on net hg.group.automaton d (start_of hg.group.automaton s) us (dest_of s d p proper) way,
-        );
-        on_path = record { path = hg.path; has = hg.has; described = (hg.automaton (at s ∷ word_to d us)).0 (way-accepts net hg.group.automaton d (start_of hg.group.automaton s) us way) };
+        walk = walked;
+        on_path = record { path = hg.path; has = hg.has; described = (hg.automaton (at s ∷ word_to d us) walked.symbols).0 (way-accepts net hg.group.automaton d (start_of hg.group.automaton s) us way) };
       }
 
   -- an allowed word has a way that is no longer
   allowed-way : (s d : ℕ) (p : Packet) (hg : GroupOf p) (w : List Symbol) → IsProper net p s d → IsAllowed net policy p s w →
-      (us : List Vertex) × IsWay net hg.group.automaton d (start_of hg.group.automaton s) us × (length (at s ∷ word_to d us) ≤ length w)
-  allowed-way s d p hg w proper allowed = by w (walk-goes_on net s allowed.to w allowed.walk) ((hg.automaton w).1 (subst (λ x. InLanguage x w) same_path allowed.on_path.described))
+      (us : List Vertex) × LeadsToEnd net hg.group.automaton d (start_of hg.group.automaton s) us × (length (at s ∷ word_to d us) ≤ length w)
+  allowed-way s d p hg w proper allowed = by w (walk-goes_on net s allowed.to w allowed.walk) ((hg.automaton w allowed.walk.symbols).1 (subst (λ x. InLanguage x w) same_path allowed.on_path.described))
     where
       same : allowed.to ≡ d
       same = one_dest s d allowed.to p proper allowed.proper
@@ -76,20 +77,20 @@ module _ (net : Network) (policy : Policy) (ends : List Ends) (walks : List (Lis
       longer : (m n k : ℕ) → k ≡ suc (suc m) → suc m ≤ n → k ≤ suc n
       longer m n k e le = omega arith
 
-      by : (w : List Symbol) → WalksFrom net s allowed.to w → hg.group.automaton.accepts (state_after hg.group.automaton 0 w) ≡ true →
-          (us : List Vertex) × IsWay net hg.group.automaton d (start_of hg.group.automaton s) us × (length (at s ∷ word_to d us) ≤ length w)
+      by : (w : List Symbol) → WalksFrom net s allowed.to w → hg.group.automaton.accepts (ending_state hg.group.automaton 0 w) ≡ true →
+          (us : List Vertex) × LeadsToEnd net hg.group.automaton d (start_of hg.group.automaton s) us × (length (at s ∷ word_to d us) ≤ length w)
       by [] h e = absurd h
       by (x ∷ rest) h e =
           let goes : GoesOn net d (at s) rest = subst (λ T. T) (λ i. GoesOn net (same i) (h.0 i) rest) h.4 in
-          let takes : hg.group.automaton.accepts (state_after hg.group.automaton (hg.group.automaton.step 0 (at s)) rest) ≡ true = ap (λ y. hg.group.automaton.accepts (state_after hg.group.automaton (hg.group.automaton.step 0 y) rest)) (sym h.0) ∙ e in
+          let takes : hg.group.automaton.accepts (ending_state hg.group.automaton (hg.group.automaton.step 0 (at s)) rest) ≡ true = ap (λ y. hg.group.automaton.accepts (ending_state hg.group.automaton (hg.group.automaton.step 0 y) rest)) (sym h.0) ∙ e in
           let short : HasShort net hg.group.automaton d (start_of hg.group.automaton s) rest = word-way net hg.group.automaton d (start_of hg.group.automaton s) rest goes takes in
           (short.way, short.leads, longer (length short.way) (length rest) (length (at s ∷ word_to d short.way)) (ap suc (word-length d short.way)) short.short)
 
   -- what a drop at the first switch is
   at_first_switch : (s : ℕ) (p : Packet) (host : IsHost net s) (records : List Visit) (end : End) →
-      (records ≡ host_visit setting s p ∷ []) × (end ≡ Dropped (wire_of_host setting s host).wire.to) → IsDroppedAtSwitch net s records end
+      (records ≡ host_visit setting s p ∷ []) × (end ≡ Dropped (uplink_of_host setting s host).link.to) → IsDroppedAtSwitch net s records end
   at_first_switch s p host records end h =
-      ((wire_of_host setting s host).wire.to, ((wire_of_host setting s host).wire, (wire_of_host setting s host).present, (wire_of_host setting s host).from, refl), ap (map stop_of) h.0, h.1)
+      ((uplink_of_host setting s host).link.to, ((uplink_of_host setting s host).link, (uplink_of_host setting s host).present, (uplink_of_host setting s host).from, refl), ap (map stop_of) h.0, h.1)
 
   -- whether the host drops it
   not_dropped : (b : Bool) → (b ≡ true → ⊥) → b ≡ false
@@ -105,21 +106,21 @@ module _ (net : Network) (policy : Policy) (ends : List Ends) (walks : List (Lis
   room i s (inr h) share = let same : h.0 ≡ 0 = share-same net policy i s h.0 0 h.1 share in let pos = h.2 in let no_way : ⊥ = omega arith in absurd no_way
 
   -- From the words of the groups' places to those of the packet's group.
-  open-in : (s d : ℕ) (p : Packet) (hg : GroupOf p) → IsOpenIn net hg.group.automaton hg.group.written s d → IsOpen net groups hg.number s d
-  open-in s d p hg h = subst (λ o. IsOpenAt net o s d) (sym hg.stands) h
+  open-in : (s d : ℕ) (p : Packet) (hg : GroupOf p) → AllowsWalkIn net hg.group.automaton hg.group.written s d → AllowsWalk net groups hg.number s d
+  open-in s d p hg h = subst (λ o. AllowsWalkAt net o s d) (sym hg.stands) h
 
-  in-open : (s d : ℕ) (p : Packet) (hg : GroupOf p) → IsOpen net groups hg.number s d → IsOpenIn net hg.group.automaton hg.group.written s d
-  in-open s d p hg h = subst (λ o. IsOpenAt net o s d) hg.stands h
+  in-open : (s d : ℕ) (p : Packet) (hg : GroupOf p) → AllowsWalk net groups hg.number s d → AllowsWalkIn net hg.group.automaton hg.group.written s d
+  in-open s d p hg h = subst (λ o. AllowsWalkAt net o s d) hg.stands h
 
   follows-in : (s d : ℕ) (p : Packet) (hg : GroupOf p) (us : List Vertex) → Follows net groups hg.number d (start_in groups hg.number s) us →
       FollowsIn net hg.group.automaton hg.group.written d (start_of hg.group.automaton s) us
   follows-in s d p hg us h = subst (λ o. FollowsAt net o d (start_at o s) us) hg.stands h
 
   -- some walk is allowed, in the words of the groups
-  open_way : (s d : ℕ) (p : Packet) (hg : GroupOf p) → IsPacket p → IsProper net p s d → HasAllowed net policy s p → IsOpen net groups hg.number s d
+  open_way : (s d : ℕ) (p : Packet) (hg : GroupOf p) → IsPacket p → IsProper net p s d → HasAllowed net policy s p → AllowsWalk net groups hg.number s d
   open_way s d p hg valid proper has = open-in s d p hg (by hg.group.written refl)
     where
-      by : (o : Option Written) → hg.group.written ≡ o → IsOpenIn net hg.group.automaton o s d
+      by : (o : Option WrittenWalk) → hg.group.written ≡ o → AllowsWalkIn net hg.group.automaton o s d
       by None e = let w = allowed-way s d p hg has.0 proper has.1 in (w.0, w.1)
       by (Some w) e = hg.one_pair s d p w valid refl proper e
 
@@ -145,27 +146,27 @@ module _ (net : Network) (policy : Policy) (ends : List Ends) (walks : List (Lis
             sum (length (word_to d us)) (length us) (length (word_to d w.0)) (length w.0) (length other) (word-length d us) (word-length d w.0) le w.2;
       }
 
-      by_walk : (w : Written) → hg.group.written ≡ Some w → (s ≡ w.source) × (d ≡ w.dest) → IsAfter (start_of hg.group.automaton w.source ∷ w.after) (start_of hg.group.automaton s) us → IsRight s d p us
+      by_walk : (w : WrittenWalk) → hg.group.written ≡ Some w → (s ≡ w.source) × (d ≡ w.dest) → IsFollowedBy (start_of hg.group.automaton w.source ∷ w.after) (start_of hg.group.automaton s) us → IsRight s d p us
       by_walk w e pair after = record {
         allowed = way-allowed s d p hg us valid proper way;
         is_written = λ g. subst (IsWalkOf ends walks (match_of policy p)) word (hg.guaranteed w e).1;
         shortest = λ n. absurd (n (hg.guaranteed w e).0);
       }
         where
-          ok : IsWritten net hg.group.automaton w
+          ok : IsWrittenWalk net hg.group.automaton w
           ok = c.written_are hg.number hg.group w hg.stands e
 
           same : us ≡ w.after
           same = after-unique (start_of hg.group.automaton w.source ∷ w.after) (start_of hg.group.automaton w.source) us w.after ok.different
-              (subst (λ t. IsAfter (start_of hg.group.automaton w.source ∷ w.after) (start_of hg.group.automaton t) us) pair.0 after) (inl (refl, refl))
+              (subst (λ t. IsFollowedBy (start_of hg.group.automaton w.source ∷ w.after) (start_of hg.group.automaton t) us) pair.0 after) (inl (refl, refl))
 
-          way : IsWay net hg.group.automaton d (start_of hg.group.automaton s) us
-          way = subst (λ T. T) (λ i. IsWay net hg.group.automaton (sym pair.1 i) (start_of hg.group.automaton (sym pair.0 i)) (sym same i)) ok.way
+          way : LeadsToEnd net hg.group.automaton d (start_of hg.group.automaton s) us
+          way = subst (λ T. T) (λ i. LeadsToEnd net hg.group.automaton (sym pair.1 i) (start_of hg.group.automaton (sym pair.0 i)) (sym same i)) ok.way
 
-          word : word_of w ≡ at s ∷ word_to d us
+          word : written_word w ≡ at s ∷ word_to d us
           word = λ i. at (sym pair.0 i) ∷ word_to (sym pair.1 i) (sym same i)
 
-      by : (o : Option Written) → hg.group.written ≡ o → FollowsIn net hg.group.automaton o d (start_of hg.group.automaton s) us → IsRight s d p us
+      by : (o : Option WrittenWalk) → hg.group.written ≡ o → FollowsIn net hg.group.automaton o d (start_of hg.group.automaton s) us → IsRight s d p us
       by None e h = best h (hg.best_effort e)
       by (Some w) e h = by_walk w e (hg.one_pair s d p w valid refl proper e) h.1
 
@@ -206,17 +207,17 @@ module _ (net : Network) (policy : Policy) (ends : List Ends) (walks : List (Lis
             }) run.2.1,
       )
 
-  closed : (s d : ℕ) (p : Packet) (hg : GroupOf p) → IsPacket p → IsProper net p s d → ¬ HasAllowed net policy s p → ¬ IsOpen net groups hg.number s d
+  closed : (s d : ℕ) (p : Packet) (hg : GroupOf p) → IsPacket p → IsProper net p s d → ¬ HasAllowed net policy s p → ¬ AllowsWalk net groups hg.number s d
   closed s d p hg valid proper none open_here = by hg.group.written refl (in-open s d p hg open_here)
     where
-      by : (o : Option Written) → hg.group.written ≡ o → IsOpenIn net hg.group.automaton o s d → ⊥
+      by : (o : Option WrittenWalk) → hg.group.written ≡ o → AllowsWalkIn net hg.group.automaton o s d → ⊥
       by None e way = none (at s ∷ word_to d way.0, way-allowed s d p hg way.0 valid proper way.1)
       by (Some w) e pair =
-          let ok : IsWritten net hg.group.automaton w = c.written_are hg.number hg.group w hg.stands e in
-          none (at s ∷ word_to d w.after, way-allowed s d p hg w.after valid proper (subst (λ T. T) (λ i. IsWay net hg.group.automaton (sym pair.1 i) (start_of hg.group.automaton (sym pair.0 i)) w.after) ok.way))
+          let ok : IsWrittenWalk net hg.group.automaton w = c.written_are hg.number hg.group w hg.stands e in
+          none (at s ∷ word_to d w.after, way-allowed s d p hg w.after valid proper (subst (λ T. T) (λ i. LeadsToEnd net hg.group.automaton (sym pair.1 i) (start_of hg.group.automaton (sym pair.0 i)) w.after) ok.way))
 
   -- what follows the start shows that some walk is allowed
-  opens : (s d : ℕ) (p : Packet) (hg : GroupOf p) (us : List Vertex) → IsPacket p → IsProper net p s d → Follows net groups hg.number d (start_in groups hg.number s) us → IsOpen net groups hg.number s d
+  opens : (s d : ℕ) (p : Packet) (hg : GroupOf p) (us : List Vertex) → IsPacket p → IsProper net p s d → Follows net groups hg.number d (start_in groups hg.number s) us → AllowsWalk net groups hg.number s d
   opens s d p hg us valid proper h = open_way s d p hg valid proper (at s ∷ word_to d us, (right s d p hg us valid proper h).allowed)
 
   pub delivers : DeliversPackets net policy ends walks config

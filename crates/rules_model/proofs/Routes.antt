@@ -4,13 +4,13 @@ use Rattle.std.proofs.lemmas.Option.{slice_get_cases}
 use Rattle.merlin_model.specs.declared.network.Kind.{Kind}
 use Rattle.merlin_model.specs.declared.network.Kind.TheVariants.{Host, Switch, Middlebox}
 use Rattle.merlin_model.specs.declared.network.Location.{Location}
-use Rattle.merlin_model.specs.declared.network.Wire.{Wire}
-use Rattle.merlin_model.specs.Networks.{Network, kind_of, address_at, IsHost, IsSwitch, wires, back_of, IsNetwork}
-use Rattle.merlin_model.specs.Machine.{wire_of}
+use Rattle.merlin_model.specs.declared.network.DirectedLink.{DirectedLink}
+use Rattle.merlin_model.specs.Networks.{Network, kind_of, address_at, IsHost, IsSwitch, directed_links, back_of, IsNetwork}
+use Rattle.merlin_model.specs.Machine.{uplink_of}
 use Rattle.merlin_model.specs.Tests.{HasNoMiddlebox}
 use Rattle.merlin_model.proofs.Members.{in_from, all_in}
 use Rattle.merlin_model.proofs.Traces.{Some-inj}
-use Rattle.merlin_model.proofs.Wires.{way_back, wire_of-present, same_by_ends}
+use Rattle.merlin_model.proofs.DirectedLinks.{way_back, uplink_of-present, same_by_ends}
 use Rattle.rules_model.specs.Plain.{IsRoute, IsDistance, IsUnreachable, IsNextHop, IsRouting, AreLevels, IsHopDown}
 use Rattle.rules_model.proofs.Absurd.{None-Some}
 
@@ -40,23 +40,23 @@ distance-same net d v m n a b =
 
 -- next to a location at that distance, where none is nearer
 module _ (net : Network) (ok : IsNetwork net) where
-  -- a host has one wire
-  pub one_from_host : (v w : Wire) → Contains (wires net) v → Contains (wires net) w → IsHost net v.from → v.from ≡ w.from → v ≡ w
+  -- a host has one directed link
+  pub one_from_host : (v w : DirectedLink) → Contains (directed_links net) v → Contains (directed_links net) w → IsHost net v.from → v.from ≡ w.from → v ≡ w
   one_from_host v w cv cw host same =
-      Some-inj (sym (wire_of-present net ok v host cv) ∙ ap (wire_of net) same ∙ wire_of-present net ok w (subst (IsHost net) same host) cw)
+      Some-inj (sym (uplink_of-present net ok v host cv) ∙ ap (uplink_of net) same ∙ uplink_of-present net ok w (subst (IsHost net) same host) cw)
 
   -- a host beside a switch isn't nearer to another host
-  pub host-farther : (d n : ℕ) (wire : Wire) → Contains (wires net) wire → IsHost net wire.to → IsDistance net d wire.from (suc n) → IsDistance net d wire.to n → wire.to ≡ d
-  host-farther d n wire c host far near = by near.route near.leads near.long
+  pub host-farther : (d n : ℕ) (link : DirectedLink) → Contains (directed_links net) link → IsHost net link.to → IsDistance net d link.from (suc n) → IsDistance net d link.to n → link.to ≡ d
+  host-farther d n link c host far near = by near.route near.leads near.long
     where
-      by : (ws : List Wire) → IsRoute net d wire.to ws → length ws ≡ n → wire.to ≡ d
+      by : (ws : List DirectedLink) → IsRoute net d link.to ws → length ws ≡ n → link.to ≡ d
       by [] h e = h
       by (w ∷ ws) h e =
-          let same : back_of wire ≡ w = one_from_host (back_of wire) w (way_back net wire c) h.0 host (sym h.1) in
+          let same : back_of link ≡ w = one_from_host (back_of link) w (way_back net link c) h.0 host (sym h.1) in
           let s = far.shortest ws (subst (λ v. IsRoute net d v ws) (sym (ap (λ x. x.to) same)) h.3) in
           let no_way : ⊥ = omega arith in absurd no_way
 
-  hop-same : (d v : ℕ) (x y : Option Wire) → IsNextHop net d v x → IsNextHop net d v y → x ≡ y
+  hop-same : (d v : ℕ) (x y : Option DirectedLink) → IsNextHop net d v x → IsNextHop net d v y → x ≡ y
   hop-same d v None None h k = refl
   hop-same d v None (Some w) h k = absurd (h k.far.route k.far.leads)
   hop-same d v (Some w) None h k = absurd (k h.far.route h.far.leads)
@@ -68,22 +68,22 @@ module _ (net : Network) (ok : IsNetwork net) where
       let to : x.to ≡ y.to = omega arith in
       ap Some (same_by_ends net ok x y h.present k.present (h.starts ∙ sym k.starts) to)
 
-  pub routing-same : (next other : ℕ → ℕ → Option Wire) → IsRouting net next → IsRouting net other → (d v : ℕ) → IsHost net d → IsSwitch net v → next d v ≡ other d v
+  pub routing-same : (next other : ℕ → ℕ → Option DirectedLink) → IsRouting net next → IsRouting net other → (d v : ℕ) → IsHost net d → IsSwitch net v → next d v ≡ other d v
   routing-same next other a b d v host switch = hop-same d v (next d v) (other d v) (a d v host switch) (b d v host switch)
 
   module _ (flat : HasNoMiddlebox net) where
     -- what isn't a host is a switch
-    pub inner-switch : (w : Wire) → Contains (wires net) w → (¬ IsHost net w.to) → IsSwitch net w.to
+    pub inner-switch : (w : DirectedLink) → Contains (directed_links net) w → (¬ IsHost net w.to) → IsSwitch net w.to
     inner-switch w c inner = by (kind_of net w.to) refl
       where
         by : (o : Option Kind) → kind_of net w.to ≡ o → IsSwitch net w.to
-        by None e = absurd (has_kind net w.to (all_in _ (wires net) (back_of w) ok.ends (in_from (wires net) (back_of w) (way_back net w c))).0 e)
+        by None e = absurd (has_kind net w.to (all_in _ (directed_links net) (back_of w) ok.ends (in_from (directed_links net) (back_of w) (way_back net w c))).0 e)
         by (Some (Host address)) e = absurd (inner (subst (λ o. IsSome (address_at o)) (sym e) refl))
         by (Some Switch) e = e
         by (Some Middlebox) e = absurd (flat w.to e)
 
     module _ (d : ℕ) (level : ℕ → Option ℕ) (levels : AreLevels net d level) where
-      level-route : (n v : ℕ) → level v ≡ Some n → (ws : List Wire) × IsRoute net d v ws × (length ws ≡ n)
+      level-route : (n v : ℕ) → level v ≡ Some n → (ws : List DirectedLink) × IsRoute net d v ws × (length ws ≡ n)
       level-route zero v e = ([], levels.alone v e, refl)
       level-route (suc n) v e =
           let w = levels.nearer v n e in
@@ -94,7 +94,7 @@ module _ (net : Network) (ok : IsNetwork net) where
           inner zero u at = inr (levels.alone u at)
           inner (suc n) u at = inl (switch-no_host net u (levels.switches u n at))
 
-      level-least : (ws : List Wire) (v : ℕ) → IsSwitch net v ⊎ (v ≡ d) → IsRoute net d v ws → (m : ℕ) × (level v ≡ Some m) × (m ≤ length ws)
+      level-least : (ws : List DirectedLink) (v : ℕ) → IsSwitch net v ⊎ (v ≡ d) → IsRoute net d v ws → (m : ℕ) × (level v ≡ Some m) × (m ≤ length ws)
       level-least [] v here h = (0, ap level h ∙ levels.first, omega arith)
       level-least (w ∷ ws) v here h = by here (level-least ws w.to (there h.2) h.3)
         where
@@ -111,23 +111,23 @@ module _ (net : Network) (ok : IsNetwork net) where
       pub level-distance : (v n : ℕ) → IsSwitch net v ⊎ (v ≡ d) → level v ≡ Some n → IsDistance net d v n
       level-distance v n here e = record { route = route.0; leads = route.1; long = route.2; shortest = shortest }
         where
-          route : (ws : List Wire) × IsRoute net d v ws × (length ws ≡ n)
+          route : (ws : List DirectedLink) × IsRoute net d v ws × (length ws ≡ n)
           route = level-route n v e
 
-          shortest : (other : List Wire) → IsRoute net d v other → n ≤ length other
+          shortest : (other : List DirectedLink) → IsRoute net d v other → n ≤ length other
           shortest other h = let m = level-least other v here h in let same : n ≡ m.0 = Some-inj (sym e ∙ m.1) in let le = m.2 in omega arith
 
       pub level-none : (v : ℕ) → IsSwitch net v → level v ≡ None → IsUnreachable net d v
       level-none v here e route h = None-Some (sym e ∙ (level-least route v (inl here) h).1)
 
-      pub level-hop : (v : ℕ) (hop : Option Wire) → IsHost net d → IsSwitch net v → IsHopDown net level v hop → IsNextHop net d v hop
+      pub level-hop : (v : ℕ) (hop : Option DirectedLink) → IsHost net d → IsSwitch net v → IsHopDown net level v hop → IsNextHop net d v hop
       level-hop v None host here h = level-none v here h
-      level-hop v (Some wire) host here h = record {
+      level-hop v (Some link) host here h = record {
         present = h.present;
         starts = h.starts;
         left = h.left;
         far = far;
-        nearer = level-distance wire.to h.left (at_level h.left wire.to h.there) h.there;
+        nearer = level-distance link.to h.left (at_level h.left link.to h.there) h.there;
         least = λ other c from near. h.least other c from (level-of other c from near);
       }
         where
@@ -139,7 +139,7 @@ module _ (net : Network) (ok : IsNetwork net) where
           at_level (suc n) u at = inl (levels.switches u n at)
 
           -- what is that near has that level
-          level-of : (other : Wire) → Contains (wires net) other → other.from ≡ v → IsDistance net d other.to h.left → level other.to ≡ Some h.left
+          level-of : (other : DirectedLink) → Contains (directed_links net) other → other.from ≡ v → IsDistance net d other.to h.left → level other.to ≡ Some h.left
           level-of other c from near = by (kind_of net other.to) refl
             where
               placed : IsSwitch net other.to ⊎ (other.to ≡ d) → level other.to ≡ Some h.left

@@ -3,7 +3,7 @@ use Rattle.std.proofs.Common.{◌≡◌, ℕ, List, Option, None, Some, slice_ge
 use Rattle.merlin_model.specs.declared.config.Config.{Config}
 use Rattle.merlin_model.specs.Networks.{Network, IsNetwork}
 use Rattle.merlin_model.specs.Words.{at}
-use Rattle.rules_model.specs.Products.{Vertex, Group, AreWritten, start_at, start_in, Follows}
+use Rattle.rules_model.specs.Products.{Vertex, Group, AreWrittenWalks, start_at, start_in, Follows}
 use Rattle.rules_model.specs.Tables.{Plan, IsPlan, table_rules, table_processes}
 use Rattle.rules_model.proofs.Trees.{IsRouting, group_routing}
 
@@ -11,7 +11,7 @@ pub record Setting : Type 0 where
   pub net : Network
   pub network : IsNetwork net
   pub groups : List Group
-  pub written_are : AreWritten net groups
+  pub written_are : AreWrittenWalks net groups
   pub plan : Plan
   pub plan_is : IsPlan net groups plan
   pub config : Config

@@ -4,7 +4,7 @@ use Rattle.std.specs.Bool.{⊤}
 use Rattle.merlin_model.specs.declared.network.Kind.{Kind}
 use Rattle.merlin_model.specs.Networks.{Network, kind_of, IsHost, address_at, Pairwise}
 use Rattle.merlin_model.specs.Words.{at, IsSymbol, MayFollow}
-use Rattle.rules_model.specs.Products.{Automaton, Vertex, loc_of, start_of, IsEdge, IsWay, LeadsTo, function_place, IsUpTo, IsInTree, IsAfter, Written, IsWritten, FollowsIn, Group, AreWritten, FollowsAt, Follows}
+use Rattle.rules_model.specs.Products.{SymbolAutomaton, Vertex, loc_of, start_of, IsEdge, LeadsToEnd, LeadsTo, function_place, IsUpTo, IsInTree, IsFollowedBy, WrittenWalk, IsWrittenWalk, FollowsIn, Group, AreWrittenWalks, FollowsAt, Follows}
 use Rattle.merlin_model.proofs.Members.{In, all_in}
 
 suc-zero : (n : ℕ) → suc n ≡ 0 → ⊥
@@ -37,13 +37,13 @@ one_vertex u v (inr a) (inr b) = by a.1 b.1
     by (inr x) (inl y) = let e = x.0 in let no_way : ⊥ = omega arith in abbrev_none no_way
     by (inr x) (inr y) = let p = x.1 in let q = y.1 in let state : u.state ≡ v.state = omega arith in vertex-path u v a.0 x.0 state
 
-module _ (net : Network) (a : Automaton) (d : ℕ) where
-  pub tree-way : (v : Vertex) (us : List Vertex) → IsInTree net a d v us → IsWay net a d v us
+module _ (net : Network) (a : SymbolAutomaton) (d : ℕ) where
+  pub tree-way : (v : Vertex) (us : List Vertex) → IsInTree net a d v us → LeadsToEnd net a d v us
   tree-way v [] h = h
   tree-way v (u ∷ us) h = (h.0.edge, tree-way u us h.1)
 
   -- no way is shorter
-  pub tree-shortest : (v : Vertex) (us other : List Vertex) → IsInTree net a d v us → IsWay net a d v other → length us ≤ length other
+  pub tree-shortest : (v : Vertex) (us other : List Vertex) → IsInTree net a d v us → LeadsToEnd net a d v other → length us ≤ length other
   tree-shortest v [] other h w = omega arith
   tree-shortest v (u ∷ us) [] h w = absurd (h.0.not_end w)
   tree-shortest v (u ∷ us) (x ∷ xs) h w = let s = h.0.fewest x xs w.0 w.1 in omega arith
@@ -59,11 +59,11 @@ module _ (net : Network) (a : Automaton) (d : ℕ) where
       let same : u ≡ w = one_vertex u w (h.0.least w ws k.0.edge (tree-way w ws k.1) same_length) (k.0.least u us h.0.edge (tree-way u us h.1) (sym same_length)) in
       ap₂ (λ x xs. x ∷ xs) same (tree-unique w us ws (subst (λ x. IsInTree net a d x us) same h.1) k.1)
 
-pub leads-on : (net : Network) (a : Automaton) (v : Vertex) (path : List Vertex) (u w : Vertex) → LeadsTo net a v path u → IsEdge net a u w → LeadsTo net a v (path ++ w ∷ []) w
+pub leads-on : (net : Network) (a : SymbolAutomaton) (v : Vertex) (path : List Vertex) (u w : Vertex) → LeadsTo net a v path u → IsEdge net a u w → LeadsTo net a v (path ++ w ∷ []) w
 leads-on net a v [] u w h e = (subst (λ x. IsEdge net a x w) (sym h) e, refl)
 leads-on net a v (x ∷ path) u w h e = (h.0, leads-on net a x path u w h.1 e)
 
-leads-symbol : (net : Network) (a : Automaton) (v : Vertex) (path : List Vertex) (u : Vertex) → IsSymbol net v.symbol → LeadsTo net a v path u → IsSymbol net u.symbol
+leads-symbol : (net : Network) (a : SymbolAutomaton) (v : Vertex) (path : List Vertex) (u : Vertex) → IsSymbol net v.symbol → LeadsTo net a v path u → IsSymbol net u.symbol
 leads-symbol net a v [] u s h = subst (λ x. IsSymbol net x.symbol) h s
 leads-symbol net a v (x ∷ path) u s h = leads-symbol net a x path u h.0.symbol h.1
 
@@ -76,37 +76,37 @@ host_symbol net h host = by (kind_of net h) host
 
 -- Written walks.
 
-pub after-in : (xs : List Vertex) (v : Vertex) (us : List Vertex) → IsAfter xs v us → In v xs
+pub after-in : (xs : List Vertex) (v : Vertex) (us : List Vertex) → IsFollowedBy xs v us → In v xs
 after-in [] v us h = absurd h
 after-in (x ∷ xs) v us (inl h) = inl h.0
 after-in (x ∷ xs) v us (inr h) = inr (after-in xs v us h)
 
-pub after-unique : (xs : List Vertex) (v : Vertex) (us vs : List Vertex) → Pairwise (λ u v. u ≢ v) xs → IsAfter xs v us → IsAfter xs v vs → us ≡ vs
+pub after-unique : (xs : List Vertex) (v : Vertex) (us vs : List Vertex) → Pairwise (λ u v. u ≢ v) xs → IsFollowedBy xs v us → IsFollowedBy xs v vs → us ≡ vs
 after-unique [] v us vs p h k = absurd h
 after-unique (x ∷ xs) v us vs p (inl h) (inl k) = h.1 ∙ sym k.1
 after-unique (x ∷ xs) v us vs p (inl h) (inr k) = absurd (all_in (λ u. x ≢ u) xs v p.0 (after-in xs v vs k) (sym h.0))
 after-unique (x ∷ xs) v us vs p (inr h) (inl k) = absurd (all_in (λ u. x ≢ u) xs v p.0 (after-in xs v us h) (sym k.0))
 after-unique (x ∷ xs) v us vs p (inr h) (inr k) = after-unique xs v us vs p.1 h k
 
-after-on : (xs : List Vertex) (v u : Vertex) (us : List Vertex) → IsAfter xs v (u ∷ us) → IsAfter xs u us
+after-on : (xs : List Vertex) (v u : Vertex) (us : List Vertex) → IsFollowedBy xs v (u ∷ us) → IsFollowedBy xs u us
 after-on [] v u us h = absurd h
-after-on (x ∷ xs) v u us (inl h) = inr (subst (λ ys. IsAfter ys u us) h.1 (inl (refl, refl)))
+after-on (x ∷ xs) v u us (inl h) = inr (subst (λ ys. IsFollowedBy ys u us) h.1 (inl (refl, refl)))
 after-on (x ∷ xs) v u us (inr h) = inr (after-on xs v u us h)
 
-after-way : (net : Network) (a : Automaton) (d : ℕ) (x : Vertex) (xs : List Vertex) (v : Vertex) (us : List Vertex) → IsSymbol net x.symbol → IsWay net a d x xs → IsAfter (x ∷ xs) v us → IsSymbol net v.symbol × IsWay net a d v us
-after-way net a d x xs v us s way (inl h) = (subst (λ y. IsSymbol net y.symbol) (sym h.0) s, subst (λ T. T) (λ i. IsWay net a d (sym h.0 i) (sym h.1 i)) way)
+after-way : (net : Network) (a : SymbolAutomaton) (d : ℕ) (x : Vertex) (xs : List Vertex) (v : Vertex) (us : List Vertex) → IsSymbol net x.symbol → LeadsToEnd net a d x xs → IsFollowedBy (x ∷ xs) v us → IsSymbol net v.symbol × LeadsToEnd net a d v us
+after-way net a d x xs v us s way (inl h) = (subst (λ y. IsSymbol net y.symbol) (sym h.0) s, subst (λ T. T) (λ i. LeadsToEnd net a d (sym h.0 i) (sym h.1 i)) way)
 after-way net a d x [] v us s way (inr h) = absurd h
 after-way net a d x (y ∷ ys) v us s way (inr h) = after-way net a d y ys v us way.0.symbol way.1 h
 
-module _ (net : Network) (a : Automaton) where
-  abbrev OkIn : Option Written → Type 0
-  OkIn o = (w : Written) → o ≡ Some w → IsWritten net a w
+module _ (net : Network) (a : SymbolAutomaton) where
+  abbrev OkIn : Option WrittenWalk → Type 0
+  OkIn o = (w : WrittenWalk) → o ≡ Some w → IsWrittenWalk net a w
 
-  in-unique : (o : Option Written) → OkIn o → (d : ℕ) (v : Vertex) (us vs : List Vertex) → FollowsIn net a o d v us → FollowsIn net a o d v vs → us ≡ vs
+  in-unique : (o : Option WrittenWalk) → OkIn o → (d : ℕ) (v : Vertex) (us vs : List Vertex) → FollowsIn net a o d v us → FollowsIn net a o d v vs → us ≡ vs
   in-unique None k d v us vs h j = tree-unique net a d v us vs h.tree j.tree
   in-unique (Some w) k d v us vs h j = after-unique (start_of a w.source ∷ w.after) v us vs (k w refl).different h.1 j.1
 
-  in-goes_on : (o : Option Written) → OkIn o → (d : ℕ) (v u : Vertex) (us : List Vertex) → FollowsIn net a o d v (u ∷ us) → FollowsIn net a o d u us
+  in-goes_on : (o : Option WrittenWalk) → OkIn o → (d : ℕ) (v u : Vertex) (us : List Vertex) → FollowsIn net a o d v (u ∷ us) → FollowsIn net a o d u us
   in-goes_on None k d v u us h = record {
     source = h.source;
     host = h.host;
@@ -118,16 +118,16 @@ module _ (net : Network) (a : Automaton) where
   }
   in-goes_on (Some w) k d v u us h = (h.0, after-on (start_of a w.source ∷ w.after) v u us h.1)
 
-  in-way : (o : Option Written) → OkIn o → (d : ℕ) (v : Vertex) (us : List Vertex) → FollowsIn net a o d v us → IsSymbol net v.symbol × IsWay net a d v us × IsHost net d
+  in-way : (o : Option WrittenWalk) → OkIn o → (d : ℕ) (v : Vertex) (us : List Vertex) → FollowsIn net a o d v us → IsSymbol net v.symbol × LeadsToEnd net a d v us × IsHost net d
   in-way None k d v us h = (leads-symbol net a (start_of a h.source) h.path v (host_symbol net h.source h.host) h.reached, tree-way net a d v us h.tree, h.dest_host)
   in-way (Some w) k d v us h =
-      let ok : IsWritten net a w = k w refl in
+      let ok : IsWrittenWalk net a w = k w refl in
       let way = after-way net a w.dest (start_of a w.source) w.after v us (host_symbol net w.source ok.source) ok.way h.1 in
-      (way.0, subst (λ e. IsWay net a e v us) (sym h.0) way.1, subst (IsHost net) (sym h.0) ok.dest)
+      (way.0, subst (λ e. LeadsToEnd net a e v us) (sym h.0) way.1, subst (IsHost net) (sym h.0) ok.dest)
 
 module _ (net : Network) where
   abbrev OkAt : Option Group → Type 0
-  OkAt o = (g : Group) (w : Written) → o ≡ Some g → g.written ≡ Some w → IsWritten net g.automaton w
+  OkAt o = (g : Group) (w : WrittenWalk) → o ≡ Some g → g.written ≡ Some w → IsWrittenWalk net g.automaton w
 
   at-unique : (o : Option Group) → OkAt o → (d : ℕ) (v : Vertex) (us vs : List Vertex) → FollowsAt net o d v us → FollowsAt net o d v vs → us ≡ vs
   at-unique None k d v us vs h j = absurd h
@@ -155,7 +155,7 @@ pub record IsRouting (net : Network) (groups : List Group) : Type 0 where
   pub symbol : (g d : ℕ) (v : Vertex) (us : List Vertex) → Follows net groups g d v us → IsSymbol net v.symbol
   pub dest : (g d : ℕ) (v : Vertex) (us : List Vertex) → Follows net groups g d v us → IsHost net d
 
-pub group_routing : (net : Network) (groups : List Group) → AreWritten net groups → IsRouting net groups
+pub group_routing : (net : Network) (groups : List Group) → AreWrittenWalks net groups → IsRouting net groups
 group_routing net groups k = record {
   unique = λ g d v us vs h j. at-unique net (slice_get groups g) (k g) d v us vs h j;
   goes_on = λ g d v u us h. at-goes_on net (slice_get groups g) (k g) d v u us h;

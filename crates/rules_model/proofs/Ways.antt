@@ -5,18 +5,18 @@ use Rattle.merlin_model.specs.declared.policy.Symbol.{Symbol}
 use Rattle.merlin_model.specs.Networks.{Network, IsHost}
 use Rattle.merlin_model.specs.Words.{MayFollow}
 use Rattle.merlin_model.specs.Words.{GoesOn}
-use Rattle.rules_model.specs.Products.{word_to, Automaton, state_after, Vertex, loc_of, IsWay}
+use Rattle.rules_model.specs.Products.{word_to, SymbolAutomaton, ending_state, Vertex, loc_of, LeadsToEnd}
 use Rattle.rules_model.proofs.Trees.{host_symbol}
 
-module _ (net : Network) (a : Automaton) (d : ℕ) where
-  pub way-goes_on : (v : Vertex) (us : List Vertex) → IsHost net d → IsWay net a d v us → GoesOn net d v.symbol (word_to d us)
+module _ (net : Network) (a : SymbolAutomaton) (d : ℕ) where
+  pub way-goes_on : (v : Vertex) (us : List Vertex) → IsHost net d → LeadsToEnd net a d v us → GoesOn net d v.symbol (word_to d us)
   way-goes_on v [] host h = (h.follows, host_symbol net d host, refl)
   way-goes_on v (u ∷ []) host h = (h.0.follows, h.0.symbol, h.0.inside, way-goes_on u [] host h.1)
   way-goes_on v (u ∷ w ∷ us) host h = (h.0.follows, h.0.symbol, h.0.inside, way-goes_on u (w ∷ us) host h.1)
 
-  pub way-accepts : (v : Vertex) (us : List Vertex) → IsWay net a d v us → a.accepts (state_after a v.state (word_to d us)) ≡ true
+  pub way-accepts : (v : Vertex) (us : List Vertex) → LeadsToEnd net a d v us → a.accepts (ending_state a v.state (word_to d us)) ≡ true
   way-accepts v [] h = h.accepts
-  way-accepts v (u ∷ us) h = ap (λ q. a.accepts (state_after a q (word_to d us))) (sym h.0.state) ∙ way-accepts u us h.1
+  way-accepts v (u ∷ us) h = ap (λ q. a.accepts (ending_state a q (word_to d us))) (sym h.0.state) ∙ way-accepts u us h.1
 
   option-same : (m n : Option ℕ) → (m ≡ n) ⊎ (m ≢ n)
   option-same None None = inl refl
@@ -52,10 +52,10 @@ module _ (net : Network) (a : Automaton) (d : ℕ) where
   -- the way of a word from a vertex: turns at one vertex are left out
   pub record HasShort (v : Vertex) (w : List Symbol) : Type 0 where
     pub way : List Vertex
-    pub leads : IsWay net a d v way
+    pub leads : LeadsToEnd net a d v way
     pub short : suc (length way) ≤ length w
 
-  pub word-way : (v : Vertex) (w : List Symbol) → GoesOn net d v.symbol w → a.accepts (state_after a v.state w) ≡ true → HasShort v w
+  pub word-way : (v : Vertex) (w : List Symbol) → GoesOn net d v.symbol w → a.accepts (ending_state a v.state w) ≡ true → HasShort v w
   word-way v [] h e = absurd h
   word-way v (y ∷ []) h e = record {
     way = [];
@@ -65,7 +65,7 @@ module _ (net : Network) (a : Automaton) (d : ℕ) where
   word-way v (y ∷ z ∷ rest) h e = by (vertex-same v (record { symbol = y; state = a.step v.state y })) (word-way (record { symbol = y; state = a.step v.state y }) (z ∷ rest) h.3 e)
     where
       by : (v ≡ record { symbol = y; state = a.step v.state y }) ⊎ (v ≢ record { symbol = y; state = a.step v.state y }) → HasShort (record { symbol = y; state = a.step v.state y }) (z ∷ rest) → HasShort v (y ∷ z ∷ rest)
-      by (inl same) ih = record { way = ih.way; leads = subst (λ x. IsWay net a d x ih.way) (sym same) ih.leads; short = let s = ih.short in omega arith }
+      by (inl same) ih = record { way = ih.way; leads = subst (λ x. LeadsToEnd net a d x ih.way) (sym same) ih.leads; short = let s = ih.short in omega arith }
       by (inr other) ih = record {
         way = record { symbol = y; state = a.step v.state y } ∷ ih.way;
         leads = (record { follows = h.0; symbol = h.1; inside = h.2; state = refl; turns = other }, ih.leads);

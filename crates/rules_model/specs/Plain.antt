@@ -1,29 +1,31 @@
--- The policy that allows every way, over hosts and switches: distances, next hops, and the rules that they give.
+-- The policy that allows every way, over hosts and switches: distances, next hops, and the rules
+-- that they give.
 use Rattle.std.specs.Prelude.{ℕ, suc, ◌≡◌, ◌≤◌, ◌⊎◌, ◌==◌, not, List, [], ◌∷◌, ◌++◌, map, length, filter, filter_map, Contains, Option, None, Some, option_map, if◌then◌else◌}
 use Rattle.std.specs.List.{flat_map, range_with_len}
 use Rattle.merlin_model.specs.declared.network.HostAddress.{HostAddress}
 use Rattle.merlin_model.specs.declared.policy.Path.{Star, Dot}
 use Rattle.merlin_model.specs.declared.config.Rule.{Rule}
-use Rattle.merlin_model.specs.declared.network.Wire.{Wire}
-use Rattle.merlin_model.specs.Networks.{Network, kind_of, address_of, IsHost, IsSwitch, wires}
+use Rattle.merlin_model.specs.declared.network.DirectedLink.{DirectedLink}
+use Rattle.merlin_model.specs.Networks.{Network, kind_of, address_of, IsHost, IsSwitch, directed_links}
 use Rattle.merlin_model.specs.Words.{at}
 use Rattle.merlin_model.specs.Policies.{Policy}
-use Rattle.merlin_model.specs.Machine.{wire_of}
-use Rattle.rules_model.specs.declared.station.Station.{Station}
-use Rattle.rules_model.specs.Products.{Automaton, Vertex, Group}
-use Rattle.rules_model.specs.Tables.{Hop, Row, Cell, Entry, is_host, switches_of, rules_of_row, cell_rule, last_rule}
+use Rattle.merlin_model.specs.Machine.{uplink_of}
+use Rattle.rules_model.specs.declared.attached_host.AttachedHost.{AttachedHost}
+use Rattle.rules_model.specs.Products.{SymbolAutomaton, Vertex, Group}
+use Rattle.rules_model.specs.Tables.{Hop, TableRow, Cell, IngressEntry, is_host_kind, all_switches, rules_of_row, cell_rule, last_rule}
 
 -- `[ default -> .* ]`: each packet may go any way, through no function
 abbrev pub any_path_policy : Policy
 any_path_policy = record { statements = []; default_path = Some (Star Dot); terms = [] }
 
--- Its one group: the automaton of `.*` is in state 0 while no symbol had a function, then in state 1.
+-- Its one group: the automaton of `.*` is in state 0 while no symbol had a function, then in state
+-- 1.
 
 abbrev pub any_step : ℕ → Option ℕ → ℕ
 any_step q None = q
 any_step q (Some f) = 1
 
-abbrev pub any_automaton : Automaton
+abbrev pub any_automaton : SymbolAutomaton
 any_automaton = record { step = λ q x. any_step q x.fun; accepts = λ q. q == 0 }
 
 abbrev pub any_groups : List Group
@@ -38,75 +40,83 @@ whole_cells s d = (whole, 0) ∷ []
 
 -- Distances.
 
--- the wires lead from location v to host d, through no other host
-abbrev pub IsRoute : Network → ℕ → ℕ → List Wire → Type 0
+-- the directed links lead from location v to host d, through no other host
+abbrev pub IsRoute : Network → ℕ → ℕ → List DirectedLink → Type 0
 IsRoute net d v [] = v ≡ d
-IsRoute net d v (w ∷ ws) = Contains (wires net) w × (w.from ≡ v) × ((¬ IsHost net w.to) ⊎ (w.to ≡ d)) × IsRoute net d w.to ws
+IsRoute net d v (w ∷ ws) =
+    Contains (directed_links net) w × (w.from ≡ v) × ((¬ IsHost net w.to) ⊎ (w.to ≡ d))
+    × IsRoute net d w.to ws
 
--- the shortest route from v to host d has n wires
+-- the shortest route from v to host d has n directed links
 pub record IsDistance (net : Network) (d v n : ℕ) : Type 0 where
-  pub route : List Wire
+  pub route : List DirectedLink
   pub leads : IsRoute net d v route
   pub long : length route ≡ n
-  pub shortest : (other : List Wire) → IsRoute net d v other → n ≤ length other
+  pub shortest : (other : List DirectedLink) → IsRoute net d v other → n ≤ length other
 
 abbrev pub IsUnreachable : Network → ℕ → ℕ → Type 0
-IsUnreachable net d v = (route : List Wire) → ¬ IsRoute net d v route
+IsUnreachable net d v = (route : List DirectedLink) → ¬ IsRoute net d v route
 
 -- Next hops.
 
--- The wire leads from v to a location that is one wire nearer to host d, and to the first such location in the order of the topology.
-pub record IsNextTowards (net : Network) (d v : ℕ) (wire : Wire) : Type 0 where
-  pub present : Contains (wires net) wire
-  pub starts : wire.from ≡ v
+-- The directed link leads from v to a location that is one directed link nearer to host d, and to
+-- the first such location in the order of the topology.
+pub record IsNextTowards (net : Network) (d v : ℕ) (link : DirectedLink) : Type 0 where
+  pub present : Contains (directed_links net) link
+  pub starts : link.from ≡ v
   pub left : ℕ
   pub far : IsDistance net d v (suc left)
-  pub nearer : IsDistance net d wire.to left
-  pub least : (other : Wire) → Contains (wires net) other → other.from ≡ v → IsDistance net d other.to left → wire.to ≤ other.to
+  pub nearer : IsDistance net d link.to left
+  pub least : (other : DirectedLink) → Contains (directed_links net) other → other.from ≡ v →
+      IsDistance net d other.to left → link.to ≤ other.to
 
-abbrev pub IsNextHop : Network → ℕ → ℕ → Option Wire → Type 0
+abbrev pub IsNextHop : Network → ℕ → ℕ → Option DirectedLink → Type 0
 IsNextHop net d v None = IsUnreachable net d v
-IsNextHop net d v (Some wire) = IsNextTowards net d v wire
+IsNextHop net d v (Some link) = IsNextTowards net d v link
 
 -- `next d v` is the next hop of switch v towards host d, and None where there is no way
-abbrev pub IsRouting : Network → (ℕ → ℕ → Option Wire) → Type 0
+abbrev pub IsRouting : Network → (ℕ → ℕ → Option DirectedLink) → Type 0
 IsRouting net next = (d v : ℕ) → IsHost net d → IsSwitch net v → IsNextHop net d v (next d v)
 
--- The same level by level, as a search from d finds it: d alone is at level 0, a switch at a later level has a wire to the level
--- before, and a wire from a level to a switch leads at most one level on. All else has no level.
+-- The same level by level, as a search from d finds it: d alone is at level 0, a switch at a later
+-- level has a directed link to the level before, and a directed link from a level to a switch leads
+-- at most one level on. All else has no level.
 pub record AreLevels (net : Network) (d : ℕ) (level : ℕ → Option ℕ) : Type 0 where
   pub first : level d ≡ Some 0
   pub alone : (v : ℕ) → level v ≡ Some 0 → v ≡ d
   pub switches : (v n : ℕ) → level v ≡ Some (suc n) → IsSwitch net v
-  pub nearer : (v n : ℕ) → level v ≡ Some (suc n) → (w : Wire) × Contains (wires net) w × (w.from ≡ v) × (level w.to ≡ Some n)
-  pub spreads : (w : Wire) (n : ℕ) → Contains (wires net) w → level w.from ≡ Some n → IsSwitch net w.to → (m : ℕ) × (level w.to ≡ Some m) × (m ≤ suc n)
+  pub nearer : (v n : ℕ) → level v ≡ Some (suc n) → (w : DirectedLink)
+      × Contains (directed_links net) w × (w.from ≡ v) × (level w.to ≡ Some n)
+  pub spreads : (w : DirectedLink) (n : ℕ) → Contains (directed_links net) w →
+      level w.from ≡ Some n → IsSwitch net w.to → (m : ℕ) × (level w.to ≡ Some m) × (m ≤ suc n)
 
--- the wire leads from v one level down, and to the first such location
-pub record LeadsDown (net : Network) (level : ℕ → Option ℕ) (v : ℕ) (wire : Wire) : Type 0 where
-  pub present : Contains (wires net) wire
-  pub starts : wire.from ≡ v
+-- the directed link leads from v one level down, and to the first such location
+pub record LeadsDown (net : Network) (level : ℕ → Option ℕ) (v : ℕ) (link : DirectedLink) : Type 0 where
+  pub present : Contains (directed_links net) link
+  pub starts : link.from ≡ v
   pub left : ℕ
   pub here : level v ≡ Some (suc left)
-  pub there : level wire.to ≡ Some left
-  pub least : (other : Wire) → Contains (wires net) other → other.from ≡ v → level other.to ≡ Some left → wire.to ≤ other.to
+  pub there : level link.to ≡ Some left
+  pub least : (other : DirectedLink) → Contains (directed_links net) other → other.from ≡ v →
+      level other.to ≡ Some left → link.to ≤ other.to
 
-abbrev pub IsHopDown : Network → (ℕ → Option ℕ) → ℕ → Option Wire → Type 0
+abbrev pub IsHopDown : Network → (ℕ → Option ℕ) → ℕ → Option DirectedLink → Type 0
 IsHopDown net level v None = level v ≡ None
-IsHopDown net level v (Some wire) = LeadsDown net level v wire
+IsHopDown net level v (Some link) = LeadsDown net level v link
 
--- Stations: each host with its addresses and its wire to the first switch.
+-- Attached hosts: each host with its addresses and its directed link to the first switch.
 
-abbrev pub station_by : ℕ → Option HostAddress → Option Wire → Option Station
-station_by loc None wire = None
-station_by loc (Some address) None = None
-station_by loc (Some address) (Some wire) = Some (record { loc = loc; address = address; wire = wire })
+abbrev pub attached_host_by : ℕ → Option HostAddress → Option DirectedLink → Option AttachedHost
+attached_host_by loc None link = None
+attached_host_by loc (Some address) None = None
+attached_host_by loc (Some address) (Some link) = Some (record { loc = loc; address = address; link = link })
 
-abbrev pub station_at : Network → ℕ → Option Station
-station_at net loc = station_by loc (address_of net loc) (wire_of net loc)
+abbrev pub attached_host_at : Network → ℕ → Option AttachedHost
+attached_host_at net loc = attached_host_by loc (address_of net loc) (uplink_of net loc)
 
 -- all hosts, in the order of the topology
-abbrev pub stations : Network → List Station
-stations net = filter_map (station_at net) (range_with_len 0 (length net.locations))
+abbrev pub attached_hosts : Network → List AttachedHost
+attached_hosts net = filter_map (attached_host_at net) (range_with_len 0 (length net.locations))
 
 -- Rules.
 
@@ -114,42 +124,42 @@ stations net = filter_map (station_at net) (range_with_len 0 (length net.locatio
 abbrev pub vertex_at : ℕ → Vertex
 vertex_at v = record { symbol = at v; state = 0 }
 
-module _ (net : Network) (next : ℕ → ℕ → Option Wire) where
-  -- over that wire: untagged to a host, under tag 1 to a switch
-  abbrev pub hop_over : Wire → Hop
-  hop_over wire = record { functions = []; wire = wire; tag = if is_host (kind_of net wire.to) then None else Some 1 }
+module _ (net : Network) (next : ℕ → ℕ → Option DirectedLink) where
+  -- over that directed link: untagged to a host, under tag 1 to a switch
+  abbrev pub hop_over : DirectedLink → Hop
+  hop_over link = record { functions = []; link = link; tag = if is_host_kind (kind_of net link.to) then None else Some 1 }
 
   -- what switch v does with tagged frames for d
-  abbrev pub row_over : ℕ → Station → Wire → Row
-  row_over v d wire = record { group = 0; dest = d.loc; vertex = vertex_at v; tag = 1; eth = d.address.eth; hop = hop_over wire; queue = None }
+  abbrev pub row_over : ℕ → AttachedHost → DirectedLink → TableRow
+  row_over v d link = record { group = 0; dest = d.loc; vertex = vertex_at v; tag = 1; eth = d.address.eth; hop = hop_over link; queue = None }
 
   -- towards each host that switch v has a next hop for
-  abbrev pub rows_towards : ℕ → List Row
-  rows_towards v = filter_map (λ d. option_map (row_over v d) (next d.loc v)) (stations net)
+  abbrev pub rows_towards : ℕ → List TableRow
+  rows_towards v = filter_map (λ d. option_map (row_over v d) (next d.loc v)) (attached_hosts net)
 
   -- A switch that leads to one host alone stands on no way between two.
-  abbrev pub rows_at : ℕ → List Row
+  abbrev pub rows_at : ℕ → List TableRow
   rows_at v = if length (rows_towards v) == 1 then [] else rows_towards v
 
   -- what the first switch of s does with packets from s for d
-  abbrev pub entry_between : Station → Station → Entry
+  abbrev pub entry_between : AttachedHost → AttachedHost → IngressEntry
   entry_between s d = record {
-    pair = record { source = s.loc; dest = d.loc; from = s.address; to = d.address; wire = s.wire };
+    pair = record { source = s.loc; dest = d.loc; from = s.address; to = d.address; link = s.link };
     cell = whole;
     group = 0;
     queue = None;
-    hop = option_map hop_over (next d.loc s.wire.to);
+    hop = option_map hop_over (next d.loc s.link.to);
   }
 
-  abbrev pub entries_from : Station → List Entry
-  entries_from s = map (entry_between s) (filter (λ d. not (d.loc == s.loc)) (stations net))
+  abbrev pub entries_from : AttachedHost → List IngressEntry
+  entries_from s = map (entry_between s) (filter (λ d. not (d.loc == s.loc)) (attached_hosts net))
 
-  abbrev pub entries_at : ℕ → List Entry
-  entries_at v = flat_map entries_from (filter (λ s. s.wire.to == v) (stations net))
+  abbrev pub entries_at : ℕ → List IngressEntry
+  entries_at v = flat_map entries_from (filter (λ s. s.link.to == v) (attached_hosts net))
 
   -- the rules of one switch: by tag, then the ingress cells, then the last
   abbrev pub plain_rules_at : ℕ → List Rule
   plain_rules_at v = flat_map rules_of_row (rows_at v) ++ (map cell_rule (entries_at v) ++ last_rule v ∷ [])
 
   abbrev pub plain_rules : List Rule
-  plain_rules = flat_map plain_rules_at (switches_of net)
+  plain_rules = flat_map plain_rules_at (all_switches net)

@@ -3,11 +3,11 @@ use Rattle.std.proofs.Common.{◌≡◌, ℕ, List, [], map, refl, sym, subst, �
 use Rattle.serde_json.specs.Data.{Data}
 use Rattle.merlin_model.specs.declared.network.Location.{Location}
 use Rattle.merlin_model.specs.declared.network.Link.{Link}
-use Rattle.merlin_model.specs.declared.network.Wire.{Wire}
-use Rattle.merlin_model.specs.Networks.{Network, wires_of, AreDifferent}
+use Rattle.merlin_model.specs.declared.network.DirectedLink.{DirectedLink}
+use Rattle.merlin_model.specs.Networks.{Network, directed_links_of, AreDifferent}
 use Rattle.topology.specs.Format.{AreLocationsOf, AreLinksOf, HasNoFunctions, IsTopologyOf, IsTopology}
 use Rattle.topology.specs.Rules.{HaveNoMiddlebox}
-use Rattle.topology.specs.Laws.{HostsDiffer, WiresDiffer, HostsAreLinked}
+use Rattle.topology.specs.Laws.{HostsDiffer, DirectedLinksDiffer, HostsAreLinked}
 use Rattle.merlin_model.specs.declared.network.FnDecl.{FnDecl}
 use Rattle.topology.proofs.Told.{some_one}
 use Rattle.topology.proofs.Described.{locations_one, links_one}
@@ -34,16 +34,16 @@ module _ (d : Data) (locations : List Location) (are : AreLocationsOf d location
     unfolding some_links
     same_links net is = links_one (map (λ l. l.name) locations) differ d net.links links (some_links (net, is)).1 joined
 
-    pub wires_differ : (net : Network) × IsTopologyOf d net → WiresDiffer (wires_of links)
-    wires_differ (net, is) = subst (λ (ks : List Link). WiresDiffer (wires_of ks)) (same_links net is) is.lawful.ports
+    pub directed_links_differ : (net : Network) × IsTopologyOf d net → DirectedLinksDiffer (directed_links_of links)
+    directed_links_differ (net, is) = subst (λ (ks : List Link). DirectedLinksDiffer (directed_links_of ks)) (same_links net is) is.lawful.ports
 
-    pub hosts_linked : (net : Network) × IsTopologyOf d net → HostsAreLinked locations (wires_of links)
+    pub hosts_linked : (net : Network) × IsTopologyOf d net → HostsAreLinked locations (directed_links_of links)
     hosts_linked (net, is) =
-        subst (λ (ls : List Location). HostsAreLinked ls (wires_of links)) (same_locations net is)
-        (subst (λ (ks : List Link). HostsAreLinked net.locations (wires_of ks)) (same_links net is) (links_from_lawful net is.lawful))
+        subst (λ (ls : List Location). HostsAreLinked ls (directed_links_of links)) (same_locations net is)
+        (subst (λ (ks : List Link). HostsAreLinked net.locations (directed_links_of ks)) (same_links net is) (links_from_lawful net is.lawful))
 
     -- and where they have it all, they are a network that the value describes
-    pub is_described : HasNoFunctions d → HaveNoMiddlebox locations → HostsDiffer locations → WiresDiffer (wires_of links) → HostsAreLinked locations (wires_of links) → IsTopologyOf d (record { locations = locations; links = links; functions = [] })
+    pub is_described : HasNoFunctions d → HaveNoMiddlebox locations → HostsDiffer locations → DirectedLinksDiffer (directed_links_of links) → HostsAreLinked locations (directed_links_of links) → IsTopologyOf d (record { locations = locations; links = links; functions = [] })
     is_described none plain hosts apart linked = record {
       locations = are;
       hosts = hosts.few;
@@ -54,9 +54,9 @@ module _ (d : Data) (locations : List Location) (are : AreLocationsOf d location
     }
 
 -- the same of what was read, each part where it was asked
-pub is_read : (d : Data) (locations : List Location) → AreLocationsOf d locations → (links : List Link) (names : List (List ℕ)) → names ≡ map (λ l. l.name) locations → AreLinksOf names d links → AreDifferent (map (λ l. l.name) locations) → HasNoFunctions d → HaveNoMiddlebox locations → HostsDiffer locations → (ws : List Wire) → ws ≡ wires_of links → WiresDiffer ws → HostsAreLinked locations ws → IsTopologyOf d (record { locations = locations; links = links; functions = [] })
-is_read d locations are links names named joined differ none plain hosts ws wired apart linked =
-    is_described d locations are links (subst (λ (ns : List (List ℕ)). AreLinksOf ns d links) named joined) differ none plain hosts (subst WiresDiffer wired apart) (subst (HostsAreLinked locations) wired linked)
+pub is_read : (d : Data) (locations : List Location) → AreLocationsOf d locations → (links : List Link) (names : List (List ℕ)) → names ≡ map (λ l. l.name) locations → AreLinksOf names d links → AreDifferent (map (λ l. l.name) locations) → HasNoFunctions d → HaveNoMiddlebox locations → HostsDiffer locations → (ws : List DirectedLink) → ws ≡ directed_links_of links → DirectedLinksDiffer ws → HostsAreLinked locations ws → IsTopologyOf d (record { locations = locations; links = links; functions = [] })
+is_read d locations are links names named joined differ none plain hosts ws linked_both apart linked =
+    is_described d locations are links (subst (λ (ns : List (List ℕ)). AreLinksOf ns d links) named joined) differ none plain hosts (subst DirectedLinksDiffer linked_both apart) (subst (HostsAreLinked locations) linked_both linked)
 
 -- a value describes one network
 describes_one : (d : Data) (net other : Network) → IsTopologyOf d net → IsTopologyOf d other → net ≡ other

@@ -1,4 +1,4 @@
--- Hosts and wires, one location or link after another.
+-- Hosts and directed links, one location or link after another.
 use Rattle.std.proofs.Common.{◌≡◌, ◌+◌, ◌<◌, ℕ, Bool, true, cond, filter, drop, arith, length-append, List, [], ◌∷◌, ◌++◌, length, take, get_or, refl, sym, ◌∙◌, ap}
 use Rattle.std.proofs.lemmas.List.{take_more, take-append-drop}
 use Rattle.std.proofs.lemmas.List.Elements.{filter_map-append, filter-append}
@@ -7,18 +7,18 @@ use Rattle.merlin_model.specs.declared.network.Kind.{Kind}
 use Rattle.merlin_model.specs.declared.network.Kind.TheVariants.{Host, Switch, Middlebox}
 use Rattle.merlin_model.specs.declared.network.Location.{Location}
 use Rattle.merlin_model.specs.declared.network.Link.{Link}
-use Rattle.merlin_model.specs.Networks.{wires_of}
+use Rattle.merlin_model.specs.Networks.{from_a, from_b, directed_links_of}
 use Rattle.topology.specs.Rules.{hosts_of}
 
 pub hosts_more : (ls : List Location) (i : ℕ) (l : Location) → i < length ls → l ≡ get_or ls i l → hosts_of (take (i + 1) ls) ≡ hosts_of (take i ls) ++ hosts_of (l ∷ [])
 hosts_more ls i l within is = ap hosts_of (take_more ls i l within ∙ ap (λ x. take i ls ++ x ∷ []) (sym is)) ∙ filter_map-append _ (take i ls) (l ∷ [])
 
-wires-append : (xs : List Link) (x : Link) → wires_of (xs ++ x ∷ []) ≡ wires_of xs ++ wires_of (x ∷ [])
-wires-append [] x = refl
-wires-append (y ∷ xs) x = ap (λ ws. (record { from = y.a; out_port = y.aport; to = y.b; in_port = y.bport; capacity = y.capacity }) ∷ (record { from = y.b; out_port = y.bport; to = y.a; in_port = y.aport; capacity = y.capacity }) ∷ ws) (wires-append xs x)
+directed_links-append : (xs : List Link) (x : Link) → directed_links_of (xs ++ x ∷ []) ≡ directed_links_of xs ++ directed_links_of (x ∷ [])
+directed_links-append [] x = refl
+directed_links-append (y ∷ xs) x = ap (λ ws. from_a y ∷ from_b y ∷ ws) (directed_links-append xs x)
 
-pub wires_more : (links : List Link) (i : ℕ) (d : Link) → i < length links → wires_of (take (i + 1) links) ≡ wires_of (take i links) ++ wires_of (get_or links i d ∷ [])
-wires_more links i d within = ap wires_of (take_more links i d within) ∙ wires-append (take i links) (get_or links i d)
+pub links_more : (links : List Link) (i : ℕ) (d : Link) → i < length links → directed_links_of (take (i + 1) links) ≡ directed_links_of (take i links) ++ directed_links_of (get_or links i d ∷ [])
+links_more links i d within = ap directed_links_of (take_more links i d within) ∙ directed_links-append (take i links) (get_or links i d)
 
 -- a list in which something passes, and then one more, has two that pass
 pub second_passes : {X : Type 0} (p : X → Bool) (xs : List X) (i : ℕ) (d first : X) → i < length xs → filter p (take i xs) ≡ first ∷ [] → p (get_or xs i d) ≡ true → (x : X) → filter p xs ≡ x ∷ [] → ⊥

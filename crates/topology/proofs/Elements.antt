@@ -8,14 +8,14 @@ use Rattle.serde_json.specs.View.{items_of}
 use Rattle.merlin_model.specs.Networks.{AreDifferent}
 use Rattle.topology.specs.Json.{HasItems, HasElements}
 use Rattle.topology.specs.Format.{HasEnd}
-use Rattle.topology.specs.Faults.{Excuses}
+use Rattle.topology.specs.Faults.{FailsFor}
 use Rattle.topology.specs.declared.fault.NetFault.{NetFault}
 use Rattle.topology.specs.declared.fault.NetFault.TheVariants.{Json, Unbuilt, OutOfMemory}
 use Rattle.topology.proofs.Told.{some_one, one_text}
 use Rattle.topology.proofs.Distinct.{all_at}
 
 -- what excuses the part excuses the whole
-pub excuses_from : {X Y : Type 0} → (Y → X) → (fault : NetFault) → Excuses X fault → Excuses Y fault
+pub excuses_from : {X Y : Type 0} → (Y → X) → (fault : NetFault) → FailsFor X fault → FailsFor Y fault
 excuses_from f Json excuse = excuse
 excuses_from f Unbuilt excuse = λ y. excuse (f y)
 excuses_from f OutOfMemory excuse = tt

@@ -10,12 +10,13 @@ use Rattle.merlin_model.specs.declared.network.Kind.{Kind}
 use Rattle.merlin_model.specs.declared.network.Kind.TheVariants.{Host, Switch, Middlebox}
 use Rattle.merlin_model.specs.declared.network.Location.{Location}
 use Rattle.merlin_model.specs.declared.network.Link.{Link}
-use Rattle.merlin_model.specs.Networks.{Network, IsNetwork, address_at, address_of, wires, wires_of, Pairwise, AreDifferent}
+use Rattle.merlin_model.specs.Networks.{Network, IsNetwork, address_at, address_of, directed_links, directed_links_of, Pairwise, AreDifferent}
 use Rattle.topology.specs.Format.{HasKind, IsLocationOf, AreLinksOf, IsTopologyOf}
 use Rattle.topology.specs.Rules.{hosts_of, IsTopologyNetwork}
-use Rattle.topology.specs.Laws.{HostsDiffer, WiresDiffer, HostsAreLinked}
+use Rattle.topology.specs.Laws.{HostsDiffer, DirectedLinksDiffer, HostsAreLinked}
+use Rattle.topology.specs.declared.limits.TheConstants.{MAX_HOSTS}
 use Rattle.topology.proofs.Bounds.{mac_below, ip_below}
-use Rattle.topology.proofs.Wired.{wires_end, wires_ports, wires_capacities}
+use Rattle.topology.proofs.LinkedBoth.{links_end, links_ports, links_capacities}
 use Rattle.topology.proofs.Addresses.{places_from_differ, differ_from_places}
 
 locations_at : (ds : List Data) (ls : List Location) (h : ℕ) (l : Location) → AllZip IsLocationOf ds ls → slice_get ls h ≡ Some l → (d : Data) × IsLocationOf d l
@@ -72,8 +73,8 @@ described_keeps d net is =
           let found = host_kind (slice_get net.locations h) address e in
           let described = locations_at ls.0 net.locations h found.0 ls.2 found.1 in
           bounds described.0 found.0.kind address described.1.kind found.2;
-      ports = wires_ports (map (λ l. l.name) net.locations) ks.0 net.links ks.2;
-      capacities = wires_capacities (map (λ l. l.name) net.locations) ks.0 net.links ks.2;
+      ports = links_ports (map (λ l. l.name) net.locations) ks.0 net.links ks.2;
+      capacities = links_capacities (map (λ l. l.name) net.locations) ks.0 net.links ks.2;
       names = all_names ls.0 net.locations ls.2;
     }
 
@@ -86,12 +87,12 @@ its_address None e = absurd (no e)
 its_address (Some a) e = (a, refl)
 
 -- a network that was read keeps the laws
-pub is_lawful : (d : Data) (locations : List Location) (links : List Link) → AreLinksOf (map (λ l. l.name) locations) d links → AreDifferent (map (λ l. l.name) locations) → HostsDiffer locations → WiresDiffer (wires_of links) → HostsAreLinked locations (wires_of links) → IsNetwork (record { locations = locations; links = links; functions = [] })
+pub is_lawful : (d : Data) (locations : List Location) (links : List Link) → AreLinksOf (map (λ l. l.name) locations) d links → AreDifferent (map (λ l. l.name) locations) → HostsDiffer locations → DirectedLinksDiffer (directed_links_of links) → HostsAreLinked locations (directed_links_of links) → IsNetwork (record { locations = locations; links = links; functions = [] })
 is_lawful d locations links are differ hosts apart linked =
     let ks = are.0 in
-    let ends = wires_end (map (λ l. l.name) locations) ks.0 links ks.2 in
+    let ends = links_end (map (λ l. l.name) locations) ks.0 links ks.2 in
     record {
-      ends = subst (λ (n : ℕ). AllByRecursion (λ wire. (wire.from < n) × (wire.from ≢ wire.to) × (0 < wire.out_port) × (0 < wire.capacity)) (wires_of links)) (length-map locations (λ l. l.name)) ends;
+      ends = subst (λ (n : ℕ). AllByRecursion (λ directed. (directed.from < n) × (directed.from ≢ directed.to) × (0 < directed.out_port) × (0 < directed.capacity) × (0 < directed.weight)) (directed_links_of links)) (length-map locations (λ l. l.name)) ends;
       ports = apart;
       addresses = places_from_differ locations hosts.apart;
       host_link = λ h host.
@@ -103,10 +104,10 @@ is_lawful d locations links are differ hosts apart linked =
     }
 
 -- and a lawful one keeps what the reader asks
-pub hosts_from_lawful : (net : Network) → IsNetwork net → length (hosts_of net.locations) ≤ 128 → HostsDiffer net.locations
+pub hosts_from_lawful : (net : Network) → IsNetwork net → length (hosts_of net.locations) ≤ MAX_HOSTS → HostsDiffer net.locations
 hosts_from_lawful net lawful few = record { few = few; apart = differ_from_places net.locations lawful.addresses }
 
-pub links_from_lawful : (net : Network) → IsNetwork net → HostsAreLinked net.locations (wires net)
+pub links_from_lawful : (net : Network) → IsNetwork net → HostsAreLinked net.locations (directed_links net)
 links_from_lawful net lawful h within address e = lawful.host_link h (some_host (address_of net h) address (ap address_at e))
   where
     some_host : (o : Option HostAddress) (a : HostAddress) → o ≡ Some a → IsSome o

@@ -8,7 +8,7 @@ pub mod Elements
 pub mod Reached
 pub mod Described
 pub mod Addresses
-pub mod Wired
+pub mod LinkedBoth
 pub mod Bounds
 pub mod Keeping
 pub mod Asked

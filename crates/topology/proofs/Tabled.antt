@@ -15,7 +15,7 @@ use Rattle.indexmap.specs.IndexMap.{IndexMap, get, insert_entry}
 use Rattle.indexmap.proofs.CallerLemmas.{insert_entry-new}
 use Rattle.merlin_model.specs.declared.network.Location.{Location}
 use Rattle.merlin_model.specs.Networks.{Pairwise, AreDifferent}
-use Rattle.topology.specs.Tables.{names_in}
+use Rattle.topology.specs.Tables.{texts_of_keys}
 use Rattle.topology.proofs.Lookup.{position_at, position_none, map_some}
 use Rattle.topology.proofs.Distinct.{repeated, distinct_from, pairwise_from, pairwise_weaken, pairwise_map, pairwise_unmap, list_any-map}
 use Rattle.std.proofs.lemmas.Bool.{eqb-true, eq-eqb}
@@ -63,7 +63,7 @@ apart_told x y e same = no (sym ((bytes_eq-Decides x y).1 same) ∙ e)
     no e = cc
 
 -- a name that was there stands twice
-pub old_name : (keys : List (Vec ℕ Global)) (ls : List Location) (i : ℕ) (v : Vec ℕ Global) (l : Location) → names_in keys ≡ map (λ x. x.name) (take i ls) → i < length ls → l ≡ get_or ls i l → v.items ≡ l.name → list_any (λ k. pointwise nat_eq v.items k.items) keys ≡ true → AreDifferent (map (λ x. x.name) ls) → ⊥
+pub old_name : (keys : List (Vec ℕ Global)) (ls : List Location) (i : ℕ) (v : Vec ℕ Global) (l : Location) → texts_of_keys keys ≡ map (λ x. x.name) (take i ls) → i < length ls → l ≡ get_or ls i l → v.items ≡ l.name → list_any (λ k. pointwise nat_eq v.items k.items) keys ≡ true → AreDifferent (map (λ x. x.name) ls) → ⊥
 old_name keys ls i v l same within is named there different =
     repeated nat_list_eq_equiv names i l.name at any (distinct_from (pointwise nat_eq) names (pairwise_weaken told_apart names different))
   where
@@ -80,7 +80,7 @@ old_name keys ls i v l same within is named there different =
         ∙ (ap (λ n. list_any (λ k. pointwise nat_eq n k.items) keys) (sym named) ∙ there))
 
 -- the names that a table has differ
-pub names_differ : (keys : List (Vec ℕ Global)) → IsDistinct (λ x y. pointwise nat_eq x.items y.items) keys → AreDifferent (names_in keys)
+pub names_differ : (keys : List (Vec ℕ Global)) → IsDistinct (λ x y. pointwise nat_eq x.items y.items) keys → AreDifferent (texts_of_keys keys)
 names_differ keys d = pairwise_map (λ k. k.items) _ keys (pairwise_weaken (λ x y. apart_told x.items y.items) keys (pairwise_from _ keys d))
 
 pub not_new : (new there : Bool) → new ≡ not there → new ≡ false → there ≡ true
@@ -88,12 +88,12 @@ not_new new true e f = refl
 not_new new false e f = sym f ∙ e
 
 -- the place of a name among the keys
-pub name_at : (keys : List (Vec ℕ Global)) (name : List ℕ) (loc : ℕ) → position (λ k. pointwise nat_eq name k.items) keys ≡ Some loc → slice_get (names_in keys) loc ≡ Some name
+pub name_at : (keys : List (Vec ℕ Global)) (name : List ℕ) (loc : ℕ) → position (λ k. pointwise nat_eq name k.items) keys ≡ Some loc → slice_get (texts_of_keys keys) loc ≡ Some name
 name_at keys name loc e =
     let found = position_at (λ k. pointwise nat_eq name k.items) keys loc e in
     slice_get-map (λ k. k.items) keys loc ∙ (ap (option_map (λ k. k.items)) found.1 ∙ ap Some (sym ((bytes_eq-Decides name found.0.items).0 found.2)))
 
-pub name_missing : (keys : List (Vec ℕ Global)) (name : List ℕ) → position (λ k. pointwise nat_eq name k.items) keys ≡ None → (loc : ℕ) → slice_get (names_in keys) loc ≡ Some name → ⊥
+pub name_missing : (keys : List (Vec ℕ Global)) (name : List ℕ) → position (λ k. pointwise nat_eq name k.items) keys ≡ None → (loc : ℕ) → slice_get (texts_of_keys keys) loc ≡ Some name → ⊥
 name_missing keys name none loc at =
     let there = map_some (λ k. k.items) (slice_get keys loc) name (sym (slice_get-map (λ k. k.items) keys loc) ∙ at) in
     position_none (λ k. pointwise nat_eq name k.items) keys none loc there.0 there.1 ((bytes_eq-Decides name there.0.items).1 (sym there.2))

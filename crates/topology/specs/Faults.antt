@@ -14,7 +14,7 @@ Refuses Unbuilt bytes = (d : Data) × IsJson bytes d × ((net : Network) → ¬ 
 Refuses OutOfMemory bytes = ⊤
 
 -- A part of the reader fails for want of memory, or as Unbuilt where there is no such thing.
-abbrev pub Excuses : Type 0 → NetFault → Type 0
-Excuses X Json = ⊥
-Excuses X Unbuilt = ¬ X
-Excuses X OutOfMemory = ⊤
+abbrev pub FailsFor : Type 0 → NetFault → Type 0
+FailsFor X Json = ⊥
+FailsFor X Unbuilt = ¬ X
+FailsFor X OutOfMemory = ⊤

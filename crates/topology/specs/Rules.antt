@@ -5,16 +5,17 @@ use Rattle.merlin_base.specs.Lexemes.{IsName}
 use Rattle.merlin_model.specs.declared.network.HostAddress.{HostAddress}
 use Rattle.merlin_model.specs.declared.network.Location.{Location}
 use Rattle.merlin_model.specs.declared.network.Kind.TheVariants.{Middlebox}
-use Rattle.merlin_model.specs.Networks.{Network, IsNetwork, address_at, address_of, wires}
+use Rattle.topology.specs.declared.limits.TheConstants.{MAX_LOCATIONS, MAX_HOSTS, MAX_LINKS, MAX_PORT}
+use Rattle.merlin_model.specs.Networks.{Network, IsNetwork, address_at, address_of, directed_links}
 
 -- the addresses of the hosts among locations, in order
 abbrev pub hosts_of : List Location → List HostAddress
 hosts_of locations = filter_map (λ l. address_at (Some l.kind)) locations
 
 pub record IsWithinLimits (net : Network) : Type 0 where
-  pub locations : length net.locations ≤ 256
-  pub hosts : length (hosts_of net.locations) ≤ 128
-  pub links : length net.links ≤ 1024
+  pub locations : length net.locations ≤ MAX_LOCATIONS
+  pub hosts : length (hosts_of net.locations) ≤ MAX_HOSTS
+  pub links : length net.links ≤ MAX_LINKS
 
 abbrev pub HaveNoMiddlebox : List Location → Type 0
 HaveNoMiddlebox = All (λ l. l.kind ≢ Middlebox)
@@ -24,8 +25,9 @@ pub record IsTopologyNetwork (net : Network) : Type 0 where
   pub lawful : IsNetwork net
   pub limits : IsWithinLimits net
   -- addresses have 48 and 32 bits
-  pub addresses : (h : ℕ) (address : HostAddress) → address_of net h ≡ Some address → (address.eth < 2 ^ 48) × (address.ip < 2 ^ 32)
-  pub ports : AllByRecursion (λ wire. wire.out_port ≤ 65279) (wires net)
+  pub addresses : (h : ℕ) (address : HostAddress) → address_of net h ≡ Some address →
+      (address.eth < 2 ^ 48) × (address.ip < 2 ^ 32)
+  pub ports : AllByRecursion (λ directed. directed.out_port ≤ MAX_PORT) (directed_links net)
   -- a capacity is at most 10^9 kbit/s
-  pub capacities : AllByRecursion (λ wire. wire.capacity ≤ 1000000000) (wires net)
+  pub capacities : AllByRecursion (λ directed. directed.capacity ≤ 1000000000) (directed_links net)
   pub names : AllByRecursion (λ l. IsName l.name) net.locations

@@ -3,8 +3,8 @@ ghost use Rattle.std.specs.Prelude.{◌≡◌, List, ℕ, IfOk, IfErr, IfSome, I
 ghost use Rattle.std.specs.Map.{keys_of};
 ghost use Rattle.std.specs.List.{IsDistinct};
 ghost use Rattle.merlin_model.specs.Networks.{AreDifferent};
-ghost use Rattle.topology.specs.Faults.{Excuses};
-ghost use Rattle.topology.specs.Tables.{names_in};
+ghost use Rattle.topology.specs.Faults.{FailsFor};
+ghost use Rattle.topology.specs.Tables.{texts_of_keys};
 
 use crate::fault::NetFault;
 use indexmap::{IndexMap, IndexSet};
@@ -17,8 +17,9 @@ pub(crate) fn table_of<K: Copy + Eq + Hash, V: Copy>(
     alloc: Global,
     entries: &[(K, V)],
 ) -> Result<IndexMap<K, V>, NetFault>
-    ensures ok { IfOk result (λ table. (table.entries ≡ entries.now) × IsDistinct K.eq (keys_of entries.now)) }
-    ensures err { IfErr result (Excuses (IsDistinct K.eq (keys_of entries.now))) }
+    ensures ok { IfOk result (λ table. (table.entries ≡ entries.now)
+        × IsDistinct K.eq (keys_of entries.now)) }
+    ensures err { IfErr result (FailsFor (IsDistinct K.eq (keys_of entries.now))) }
 {
     let mut table = IndexMap::new(alloc);
     for entry in entries {
@@ -34,8 +35,9 @@ pub(crate) fn numbers_of(
     alloc: Global,
     locations: &[Location],
 ) -> Result<IndexSet<Vec<u8>>, NetFault>
-    ensures ok { IfOk result (λ numbers. (names_in numbers.keys ≡ map (λ l. l.name) locations.now) × AreDifferent (map (λ l. l.name) locations.now)) }
-    ensures err { IfErr result (Excuses (AreDifferent (map (λ l. l.name) locations.now))) }
+    ensures ok { IfOk result (λ numbers. (texts_of_keys numbers.keys ≡ map (λ l. l.name) locations.now)
+        × AreDifferent (map (λ l. l.name) locations.now)) }
+    ensures err { IfErr result (FailsFor (AreDifferent (map (λ l. l.name) locations.now))) }
 {
     let mut numbers = IndexSet::new(alloc);
     for location in locations {
@@ -49,8 +51,10 @@ pub(crate) fn numbers_of(
 
 // The number of a name.
 pub(crate) fn number_of(numbers: &IndexSet<Vec<u8>>, name: &[u8]) -> Option<usize>
-    ensures some { IfSome result (λ loc. slice_get (names_in numbers.now.keys) loc ≡ Some name.now) }
-    ensures none { IfNone result ((loc : ℕ) → ¬ (slice_get (names_in numbers.now.keys) loc ≡ Some name.now)) }
+    ensures some { IfSome result (λ loc.
+        slice_get (texts_of_keys numbers.now.keys) loc ≡ Some name.now) }
+    ensures none { IfNone result ((loc : ℕ) →
+        ¬ (slice_get (texts_of_keys numbers.now.keys) loc ≡ Some name.now)) }
 {
     numbers.get_index_of(name)
 }

@@ -7,6 +7,8 @@ ghost use Rattle.topology.specs.Format.{IsTopology};
 
 /// A text stands for one network, which keeps what callers rest on.
 pub fn one_network()
-    ensures one { (bytes : List ℕ) (net other : Network) → IsTopology bytes net → IsTopology bytes other → net ≡ other }
-    ensures keeps { (bytes : List ℕ) (net : Network) → IsTopology bytes net → IsTopologyNetwork net }
+    ensures one { (bytes : List ℕ) (net other : Network) → IsTopology bytes net →
+        IsTopology bytes other → net ≡ other }
+    ensures keeps { (bytes : List ℕ) (net : Network) → IsTopology bytes net →
+        IsTopologyNetwork net }
 {}

@@ -4,14 +4,15 @@
 mod fault;
 mod index;
 pub mod laws;
+pub mod limits;
 mod net;
 mod reader;
 mod rules;
 mod shape;
 
 pub use fault::NetFault;
-pub use merlin_model::network::{FnDecl, HostAddress, Kind, Link, Location, Place, Wire};
+pub use merlin_model::network::{DirectedLink, FnDecl, HostAddress, Kind, Link, Location, Place};
 pub use merlin_model::policy::Ends;
 pub use net::Topology;
 pub use reader::read;
-pub use rules::wires_of;
+pub use rules::directed_links_of;

@@ -1,9 +1,9 @@
 //! A topology, and what is looked up in it.
 ghost use Rattle.std.specs.Prelude.{◌≡◌, ◌<◌, ℕ, Some, length, option_map, slice_get, IfSome, IfNone};
 ghost use Rattle.merlin_model.specs.Networks.{address_of, AreLinked};
-ghost use Rattle.merlin_model.specs.Machine.{wire_at};
+ghost use Rattle.merlin_model.specs.Machine.{link_at};
 ghost use Rattle.topology.specs.Rules.{IsTopologyNetwork};
-ghost use Rattle.topology.specs.Look.{name_of, place_of, far_end};
+ghost use Rattle.topology.specs.Look.{name_of, place_at, far_end};
 
 use crate::index::number_of;
 use crate::rules::Tables;
@@ -54,7 +54,7 @@ impl Topology {
     /// What stands at a location.
     pub fn place(&self, loc: usize) -> Place
         requires { loc < length self.now.locations }
-        ensures { place_of self.now loc ≡ Some result }
+        ensures { place_at self.now loc ≡ Some result }
     {
         match self.locations[loc].kind {
             Kind::Host(_) => Place::Host,
@@ -100,7 +100,7 @@ impl Topology {
     /// The location and the port at the other end of the link at this port. None where the port has no link.
     pub fn neighbour(&self, loc: usize, port: u16) -> Option<(usize, u16)>
         requires { loc < length self.now.locations }
-        ensures { result ≡ option_map far_end (wire_at self.now loc port) }
+        ensures { result ≡ option_map far_end (link_at self.now loc port) }
     {
         self.tables.far_ends.get(&(loc, port)).copied()
     }
@@ -109,7 +109,8 @@ impl Topology {
     pub fn port_to(&self, from: usize, to: usize) -> Option<u16>
         requires from { from < length self.now.locations }
         requires to { to < length self.now.locations }
-        ensures some { IfSome result (λ port. (linked : AreLinked self.now from to) × (linked.wire.out_port ≡ port)) }
+        ensures some { IfSome result (λ port. (linked : AreLinked self.now from to)
+            × (linked.link.out_port ≡ port)) }
         ensures none { IfNone result (AreLinked self.now from to → ⊥) }
     {
         self.tables.ports.get(&(from, to)).copied()

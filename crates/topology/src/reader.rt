@@ -6,12 +6,12 @@ ghost use Rattle.merlin_model.specs.Networks.{Network};
 ghost use Rattle.topology.specs.declared.fault.NetFault.TheVariants as fault;
 ghost use Rattle.topology.specs.Json.{IsJson};
 ghost use Rattle.topology.specs.Format.{IsTopology, IsTopologyOf};
-ghost use Rattle.topology.specs.Faults.{Refuses, Excuses};
+ghost use Rattle.topology.specs.Faults.{Refuses, FailsFor};
 
 use crate::fault::NetFault;
 use crate::index::numbers_of;
 use crate::net::Topology;
-use crate::rules::{ask_hosts, have_no_middlebox, hosts_are_linked, tables_of, wires_of};
+use crate::rules::{ask_hosts, directed_links_of, have_no_middlebox, hosts_are_linked, tables_of};
 use crate::shape::{has_no_functions, links_of, locations_of};
 use serde_json::Value;
 use std::alloc::Global;
@@ -35,7 +35,7 @@ fn value_of(alloc: Global, bytes: &[u8]) -> Result<Value, NetFault>
 // The network that the value describes.
 fn topology_of(alloc: Global, value: &Value) -> Result<Topology, NetFault>
     ensures ok { IfOk result (IsTopologyOf (view value.now)) }
-    ensures err { IfErr result (Excuses ((net : Network) × IsTopologyOf (view value.now) net)) }
+    ensures err { IfErr result (FailsFor ((net : Network) × IsTopologyOf (view value.now) net)) }
 {
     if !has_no_functions(value) {
         return Err(NetFault::Unbuilt);
@@ -47,9 +47,9 @@ fn topology_of(alloc: Global, value: &Value) -> Result<Topology, NetFault>
     let numbers = numbers_of(alloc, &locations)?;
     ask_hosts(alloc, &locations)?;
     let links = links_of(alloc, value, &numbers)?;
-    let wires = wires_of(alloc, &links)?;
-    let tables = tables_of(alloc, &wires)?;
-    if !hosts_are_linked(&locations, &wires) {
+    let directed_links = directed_links_of(alloc, &links)?;
+    let tables = tables_of(alloc, &directed_links)?;
+    if !hosts_are_linked(&locations, &directed_links) {
         return Err(NetFault::Unbuilt);
     }
     Ok(Topology {

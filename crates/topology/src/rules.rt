@@ -1,21 +1,20 @@
-//! The laws of networks, asked of locations and wires.
+//! The laws of networks, asked of locations and directed links.
 ghost use Rattle.std.specs.Prelude.{◌≡◌, ◌<◌, ◌==◌, ◌↔◌, ℕ, [], ◌∷◌, filter, length, map, IfOk, IfErr, OnOk, IfSome, IfNone, IsTrue};
-ghost use Rattle.merlin_model.specs.declared.network.Wire.{Wire};
-ghost use Rattle.merlin_model.specs.Networks.{wires_of as wires_of_links};
+ghost use Rattle.merlin_model.specs.declared.network.DirectedLink.{DirectedLink};
+ghost use Rattle.merlin_model.specs.Networks.{directed_links_of as directed_links_of_links};
 ghost use Rattle.topology.specs.Rules.{hosts_of as hosts_among, HaveNoMiddlebox};
-ghost use Rattle.topology.specs.Laws.{HostsDiffer, WiresDiffer, IsLinked, IsLinkedIfHost, HostsAreLinked};
-ghost use Rattle.topology.specs.Tables.{eth_entry, ip_entry, port_entry, ends_entry, AreTablesOf};
-ghost use Rattle.topology.specs.Faults.{Excuses};
+ghost use Rattle.topology.specs.Laws.{HostsDiffer, DirectedLinksDiffer, IsLinked, IsLinkedIfHost, HostsAreLinked};
+ghost use Rattle.topology.specs.Tables.{eth_entry, ip_entry, port_entry, ends_entry, AreLinkTables};
+ghost use Rattle.topology.specs.Faults.{FailsFor};
 
 use crate::fault::NetFault;
 use crate::index::table_of;
+use crate::limits::MAX_HOSTS;
 use indexmap::IndexMap;
-use merlin_model::network::{HostAddress, Kind, Link, Location, Wire};
+use merlin_model::network::{DirectedLink, HostAddress, Kind, Link, Location};
 use std::alloc::{AllocError, Global};
 
-const MAX_HOSTS: usize = 128;
-
-// What is looked up of wires.
+// What is looked up of directed links.
 #[derive(Drop)]
 pub(crate) struct Tables {
     // by location and port: the location and port at the other end
@@ -52,7 +51,7 @@ fn by_ip(alloc: Global, hosts: &[HostAddress]) -> Result<Vec<(u32, ())>, AllocEr
 // Asks that hosts be few and differ in both addresses.
 pub(crate) fn ask_hosts(alloc: Global, locations: &[Location]) -> Result<(), NetFault>
     ensures ok { OnOk result (HostsDiffer locations.now) }
-    ensures err { IfErr result (Excuses (HostsDiffer locations.now)) }
+    ensures err { IfErr result (FailsFor (HostsDiffer locations.now)) }
 {
     let hosts = hosts_of(alloc, locations)?;
     if hosts.len() > MAX_HOSTS {
@@ -66,81 +65,99 @@ pub(crate) fn ask_hosts(alloc: Global, locations: &[Location]) -> Result<(), Net
 }
 
 /// Both directions of each link, the one from `a` to `b` first.
-pub fn wires_of(alloc: Global, links: &[Link]) -> Result<Vec<Wire>, AllocError>
-    ensures { IfOk result (λ wires. wires.items ≡ wires_of_links links.now) }
+pub fn directed_links_of(alloc: Global, links: &[Link]) -> Result<Vec<DirectedLink>, AllocError>
+    ensures { IfOk result (λ directed_links.
+        directed_links.items ≡ directed_links_of_links links.now) }
 {
-    let mut wires = Vec::new(alloc);
+    let mut directed_links = Vec::new(alloc);
     for link in links {
-        wires.push(Wire {
+        directed_links.push(DirectedLink {
             from: link.a,
             out_port: link.aport,
             to: link.b,
             in_port: link.bport,
             capacity: link.capacity,
+            back: link.back,
+            weight: link.weight,
         })?;
-        wires.push(Wire {
+        directed_links.push(DirectedLink {
             from: link.b,
             out_port: link.bport,
             to: link.a,
             in_port: link.aport,
-            capacity: link.capacity,
+            capacity: link.back,
+            back: link.capacity,
+            weight: link.weight,
         })?;
     }
-    Ok(wires)
+    Ok(directed_links)
 }
 
-fn by_port(alloc: Global, wires: &[Wire]) -> Result<Vec<((usize, u16), (usize, u16))>, AllocError>
-    ensures { IfOk result (λ entries. entries.items ≡ map port_entry wires.now) }
+fn by_port(
+    alloc: Global,
+    directed_links: &[DirectedLink],
+) -> Result<Vec<((usize, u16), (usize, u16))>, AllocError>
+    ensures { IfOk result (λ entries. entries.items ≡ map port_entry directed_links.now) }
 {
-    wires
+    directed_links
         .iter()
-        .map(|wire| ((wire.from, wire.out_port), (wire.to, wire.in_port)))
+        .map(|directed| (
+            (directed.from, directed.out_port),
+            (directed.to, directed.in_port),
+        ))
         .collect(alloc)
 }
 
-fn by_ends(alloc: Global, wires: &[Wire]) -> Result<Vec<((usize, usize), u16)>, AllocError>
-    ensures { IfOk result (λ entries. entries.items ≡ map ends_entry wires.now) }
+fn by_ends(
+    alloc: Global,
+    directed_links: &[DirectedLink],
+) -> Result<Vec<((usize, usize), u16)>, AllocError>
+    ensures { IfOk result (λ entries. entries.items ≡ map ends_entry directed_links.now) }
 {
-    wires
+    directed_links
         .iter()
-        .map(|wire| ((wire.from, wire.to), wire.out_port))
+        .map(|directed| ((directed.from, directed.to), directed.out_port))
         .collect(alloc)
 }
 
-// The wires by location and port, and by both ends, if neither stands twice.
-pub(crate) fn tables_of(alloc: Global, wires: &[Wire]) -> Result<Tables, NetFault>
-    ensures ok { IfOk result (λ tables. AreTablesOf tables.far_ends.entries tables.ports.entries wires.now × WiresDiffer wires.now) }
-    ensures err { IfErr result (Excuses (WiresDiffer wires.now)) }
+// The directed links by location and port, and by both ends, if neither stands twice.
+pub(crate) fn tables_of(alloc: Global, directed_links: &[DirectedLink]) -> Result<Tables, NetFault>
+    ensures ok { IfOk result (λ tables.
+        AreLinkTables tables.far_ends.entries tables.ports.entries directed_links.now
+        × DirectedLinksDiffer directed_links.now) }
+    ensures err { IfErr result (FailsFor (DirectedLinksDiffer directed_links.now)) }
 {
-    let far_ends = by_port(alloc, wires)?;
+    let far_ends = by_port(alloc, directed_links)?;
     let far_ends = table_of(alloc, &far_ends)?;
-    let ports = by_ends(alloc, wires)?;
+    let ports = by_ends(alloc, directed_links)?;
     let ports = table_of(alloc, &ports)?;
     Ok(Tables { far_ends, ports })
 }
 
-// The only wire that leaves a location.
-fn only_wire(wires: &[Wire], loc: usize) -> Option<Wire>
-    ensures some { IfSome result (λ wire. filter (λ w. w.from == loc) wires.now ≡ wire ∷ []) }
-    ensures none { IfNone result ((wire : Wire) → ¬ (filter (λ w. w.from == loc) wires.now ≡ wire ∷ [])) }
+// The only directed link that leaves a location.
+fn only_link(directed_links: &[DirectedLink], loc: usize) -> Option<DirectedLink>
+    ensures some { IfSome result (λ directed.
+        filter (λ w. w.from == loc) directed_links.now ≡ directed ∷ []) }
+    ensures none { IfNone result ((directed : DirectedLink) →
+        ¬ (filter (λ w. w.from == loc) directed_links.now ≡ directed ∷ [])) }
 {
     let mut found = None;
-    for wire in wires {
-        if wire.from == loc {
+    for directed in directed_links {
+        if directed.from == loc {
             if found.is_some() {
                 return None;
             }
-            found = Some(*wire);
+            found = Some(*directed);
         }
     }
     found
 }
 
-fn is_linked(locations: &[Location], wires: &[Wire], loc: usize) -> bool
-    ensures { IsTrue result ↔ IsLinked locations.now wires.now loc }
+fn is_linked(locations: &[Location], directed_links: &[DirectedLink], loc: usize) -> bool
+    ensures { IsTrue result ↔ IsLinked locations.now directed_links.now loc }
 {
-    match only_wire(wires, loc) {
-        Some(wire) => match locations.get(wire.to) {
+    match only_link(directed_links, loc) {
+        Some(directed) => match locations.get(directed.to) {
             Some(location) => matches!(location.kind, Kind::Switch),
             None => false,
         },
@@ -148,22 +165,22 @@ fn is_linked(locations: &[Location], wires: &[Wire], loc: usize) -> bool
     }
 }
 
-fn keeps_host_link(locations: &[Location], wires: &[Wire], loc: usize) -> bool
+fn keeps_host_link(locations: &[Location], directed_links: &[DirectedLink], loc: usize) -> bool
     requires { loc < length locations.now }
-    ensures { IsTrue result ↔ IsLinkedIfHost locations.now wires.now loc }
+    ensures { IsTrue result ↔ IsLinkedIfHost locations.now directed_links.now loc }
 {
     match locations[loc].kind {
-        Kind::Host(_) => is_linked(locations, wires, loc),
+        Kind::Host(_) => is_linked(locations, directed_links, loc),
         Kind::Switch | Kind::Middlebox => true,
     }
 }
 
 // Whether each host has one link, to a switch.
-pub(crate) fn hosts_are_linked(locations: &[Location], wires: &[Wire]) -> bool
-    ensures { IsTrue result ↔ HostsAreLinked locations.now wires.now }
+pub(crate) fn hosts_are_linked(locations: &[Location], directed_links: &[DirectedLink]) -> bool
+    ensures { IsTrue result ↔ HostsAreLinked locations.now directed_links.now }
 {
     for loc in 0..locations.len() {
-        if !keeps_host_link(locations, wires, loc) {
+        if !keeps_host_link(locations, directed_links, loc) {
             return false;
         }
     }

@@ -8,23 +8,18 @@ ghost use Rattle.merlin_model.specs.declared.network.Location.{Location};
 ghost use Rattle.merlin_model.specs.declared.network.Link.{Link};
 ghost use Rattle.merlin_model.specs.Networks.{AreDifferent};
 ghost use Rattle.topology.specs.Json.{HasText, HasNumber, HasItems, HasElements};
-ghost use Rattle.topology.specs.Format.{HasLexeme, HasKind, IsLocationOf, HasEnd, HasPort, IsLinkOf, AreLocationsOf, AreLinksOf, HasNoFunctions};
-ghost use Rattle.topology.specs.Faults.{Excuses};
-ghost use Rattle.topology.specs.Tables.{names_in};
+ghost use Rattle.topology.specs.Format.{HasLexeme, HasKind, IsLocationOf, HasEnd, HasPort, HasCapacity, HasBack, HasWeight, IsLinkOf, AreLocationsOf, AreLinksOf, HasNoFunctions};
+ghost use Rattle.topology.specs.Faults.{FailsFor};
+ghost use Rattle.topology.specs.Tables.{texts_of_keys};
 
 use crate::fault::NetFault;
 use crate::index::number_of;
+use crate::limits::{MAX_LINK_WEIGHT, MAX_LINKS, MAX_LOCATIONS, MAX_PORT};
 use indexmap::IndexSet;
 use merlin_base::{ip_value, is_name, mac_value, name_from, rate_value};
 use merlin_model::network::{HostAddress, Kind, Link, Location};
 use serde_json::Value;
 use std::alloc::Global;
-
-const MAX_LOCATIONS: usize = 256;
-
-const MAX_LINKS: usize = 1024;
-
-const MAX_PORT: u64 = 65279;
 
 // The text under a name.
 fn text_under<'v>(value: &'v Value, key: &str) -> Option<&'v str>
@@ -35,8 +30,12 @@ fn text_under<'v>(value: &'v Value, key: &str) -> Option<&'v str>
 }
 
 fn host_of(value: &Value) -> Option<HostAddress>
-    ensures some { IfSome result (λ address. HasLexeme IsMac (codes "eth") (view value.now) address.eth × HasLexeme IsIp (codes "ip") (view value.now) address.ip) }
-    ensures none { IfNone result ((eth ip : ℕ) → HasLexeme IsMac (codes "eth") (view value.now) eth → ¬ HasLexeme IsIp (codes "ip") (view value.now) ip) }
+    ensures some { IfSome result (λ address.
+        HasLexeme IsMac (codes "eth") (view value.now) address.eth
+        × HasLexeme IsIp (codes "ip") (view value.now) address.ip) }
+    ensures none { IfNone result ((eth ip : ℕ) →
+        HasLexeme IsMac (codes "eth") (view value.now) eth →
+        ¬ HasLexeme IsIp (codes "ip") (view value.now) ip) }
 {
     let eth = mac_value(text_under(value, "eth")?.as_bytes())?;
     let ip = ip_value(text_under(value, "ip")?.as_bytes())?;
@@ -58,7 +57,8 @@ fn kind_of(value: &Value) -> Option<Kind>
 // The location that an object describes.
 fn location_of(alloc: Global, value: &Value) -> Result<Location, NetFault>
     ensures ok { IfOk result (IsLocationOf (view value.now)) }
-    ensures err { IfErr result (Excuses ((location : Location) × IsLocationOf (view value.now) location)) }
+    ensures err { IfErr result (FailsFor ((location : Location)
+        × IsLocationOf (view value.now) location)) }
 {
     let kind = kind_of(value).ok_or(NetFault::Unbuilt)?;
     let text = text_under(value, "name")
@@ -72,7 +72,8 @@ fn location_of(alloc: Global, value: &Value) -> Result<Location, NetFault>
 }
 
 fn items_under<'v>(value: &'v Value, key: &str) -> Option<&'v Vec<Value>>
-    ensures some { IfSome result (λ items. HasItems key.now (view value.now) (map view items.now.items)) }
+    ensures some { IfSome result (λ items.
+        HasItems key.now (view value.now) (map view items.now.items)) }
     ensures none { IfNone result ((items : List Data) → ¬ HasItems key.now (view value.now) items) }
 {
     value.get(key).and_then(Value::as_array)
@@ -81,7 +82,8 @@ fn items_under<'v>(value: &'v Value, key: &str) -> Option<&'v Vec<Value>>
 // The locations of the topology.
 pub(crate) fn locations_of(alloc: Global, value: &Value) -> Result<Vec<Location>, NetFault>
     ensures ok { IfOk result (λ locations. AreLocationsOf (view value.now) locations.items) }
-    ensures err { IfErr result (Excuses ((locations : List Location) × AreLocationsOf (view value.now) locations)) }
+    ensures err { IfErr result (FailsFor ((locations : List Location)
+        × AreLocationsOf (view value.now) locations)) }
 {
     let Some(items) = items_under(value, "locations") else {
         return Err(NetFault::Unbuilt);
@@ -97,8 +99,9 @@ pub(crate) fn locations_of(alloc: Global, value: &Value) -> Result<Vec<Location>
 }
 
 fn end_of(value: &Value, key: &str, numbers: &IndexSet<Vec<u8>>) -> Option<usize>
-    ensures some { IfSome result (HasEnd (names_in numbers.now.keys) key.now (view value.now)) }
-    ensures none { IfNone result ((loc : ℕ) → ¬ HasEnd (names_in numbers.now.keys) key.now (view value.now) loc) }
+    ensures some { IfSome result (HasEnd (texts_of_keys numbers.now.keys) key.now (view value.now)) }
+    ensures none { IfNone result ((loc : ℕ) →
+        ¬ HasEnd (texts_of_keys numbers.now.keys) key.now (view value.now) loc) }
 {
     number_of(numbers, text_under(value, key)?.as_bytes())
 }
@@ -113,27 +116,56 @@ fn port_of(value: &Value, key: &str) -> Option<u16>
     }
 }
 
-fn capacity_of(value: &Value) -> Option<u64>
-    ensures some { IfSome result (λ capacity. HasLexeme IsRate (codes "capacity") (view value.now) capacity × (1 ≤ capacity)) }
-    ensures none { IfNone result ((capacity : ℕ) → HasLexeme IsRate (codes "capacity") (view value.now) capacity → ¬ (1 ≤ capacity)) }
+// The rate under a name, at least 1 kbit/s.
+fn capacity_under(value: &Value, key: &str) -> Option<u64>
+    ensures some { IfSome result (HasCapacity key.now (view value.now)) }
+    ensures none { IfNone result ((capacity : ℕ) →
+        ¬ HasCapacity key.now (view value.now) capacity) }
 {
-    match rate_value(text_under(value, "capacity")?.as_bytes())? {
+    match rate_value(text_under(value, key)?.as_bytes())? {
         0 => None,
         capacity => Some(capacity),
     }
 }
 
+// What a link carries from `b` to `a`, which is its capacity where nothing is said of it.
+fn back_of(value: &Value, capacity: u64) -> Option<u64>
+    ensures some { IfSome result (HasBack (view value.now) capacity) }
+    ensures none { IfNone result ((back : ℕ) → ¬ HasBack (view value.now) capacity back) }
+{
+    match value.get("back") {
+        Some(_) => capacity_under(value, "back"),
+        None => Some(capacity),
+    }
+}
+
+fn weight_of(value: &Value) -> Option<u32>
+    ensures some { IfSome result (HasWeight (view value.now)) }
+    ensures none { IfNone result ((weight : ℕ) → ¬ HasWeight (view value.now) weight) }
+{
+    let Some(member) = value.get("weight") else {
+        return Some(1);
+    };
+    match member.as_u64()? {
+        weight @ 1..=MAX_LINK_WEIGHT => Some(weight as u32),
+        _ => None,
+    }
+}
+
 // The link that an object describes.
 fn link_of(value: &Value, numbers: &IndexSet<Vec<u8>>) -> Option<Link>
-    requires { AreDifferent (names_in numbers.now.keys) }
-    ensures some { IfSome result (IsLinkOf (names_in numbers.now.keys) (view value.now)) }
-    ensures none { IfNone result ((link : Link) → ¬ IsLinkOf (names_in numbers.now.keys) (view value.now) link) }
+    requires { AreDifferent (texts_of_keys numbers.now.keys) }
+    ensures some { IfSome result (IsLinkOf (texts_of_keys numbers.now.keys) (view value.now)) }
+    ensures none { IfNone result ((link : Link) →
+        ¬ IsLinkOf (texts_of_keys numbers.now.keys) (view value.now) link) }
 {
     let a = end_of(value, "a", numbers)?;
     let aport = port_of(value, "aport")?;
     let b = end_of(value, "b", numbers)?;
     let bport = port_of(value, "bport")?;
-    let capacity = capacity_of(value)?;
+    let capacity = capacity_under(value, "capacity")?;
+    let back = back_of(value, capacity)?;
+    let weight = weight_of(value)?;
     if a == b {
         return None;
     }
@@ -143,6 +175,8 @@ fn link_of(value: &Value, numbers: &IndexSet<Vec<u8>>) -> Option<Link>
         b,
         bport,
         capacity,
+        back,
+        weight,
     })
 }
 
@@ -152,9 +186,11 @@ pub(crate) fn links_of(
     value: &Value,
     numbers: &IndexSet<Vec<u8>>,
 ) -> Result<Vec<Link>, NetFault>
-    requires { AreDifferent (names_in numbers.now.keys) }
-    ensures ok { IfOk result (λ links. AreLinksOf (names_in numbers.now.keys) (view value.now) links.items) }
-    ensures err { IfErr result (Excuses ((links : List Link) × AreLinksOf (names_in numbers.now.keys) (view value.now) links)) }
+    requires { AreDifferent (texts_of_keys numbers.now.keys) }
+    ensures ok { IfOk result (λ links.
+        AreLinksOf (texts_of_keys numbers.now.keys) (view value.now) links.items) }
+    ensures err { IfErr result (FailsFor ((links : List Link)
+        × AreLinksOf (texts_of_keys numbers.now.keys) (view value.now) links)) }
 {
     let Some(items) = items_under(value, "links") else {
         return Err(NetFault::Unbuilt);

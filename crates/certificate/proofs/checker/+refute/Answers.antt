@@ -1,6 +1,6 @@
 use Rattle.std.proofs.Common.{◌≡◌, ◌<◌, ℕ, true, false, length, sym, ◌∙◌, ap, subst, Some, Result, Ok, Err, IsErrAnd, slice_set, arith}
 use Rattle.std.specs.Option.{option_copied}
-use Rattle.certificate.specs.Answers.{IsAnswer}
+use Rattle.certificate.specs.Checks.{IsTreeCheck}
 use Rattle.certificate.proofs.AtCutoffs.{is-at}
 use Rattle.certificate.proofs.Walks.{leaf_fails, end_fails, split_fails, low_fails, high_answers, back, long, counts_on}
 use Rattle.certificate.proofs.checker.+refute.Goals as goal
@@ -46,7 +46,7 @@ returns-in_err-next-in-Split-clause-answer g t c =
     let o = c.is_open.ensures.0 c.if-not-is_open.false in
     let z = c.in_err-next-in-Split.ensures.answer in
     let failed = err_is c.from_residual.result c.in_err-next-in-Split.field-0.0 c.from_residual.ensures.1 in
-    subst (IsAnswer (g.P.Program.instance c.args.program.now (option_copied c.args.cutoff)) c.args.tree.now c.args.fixed.now c.args.at) (sym failed)
+    subst (IsTreeCheck (g.P.Program.instance c.args.program.now (option_copied c.args.cutoff)) c.args.tree.now c.args.fixed.now c.args.at) (sym failed)
     (low_fails _ c.args.tree.now c.in-Split.zero c.in-Split.one c.in-Split.variable c.args.fixed.now c.args.at c.saturating_add-in-Split.result c.in_err-next-in-Split.field-0.0 c.in-Split.is o
     (counts_on c.args.at c.saturating_add-in-Split.result c.saturating_add-in-Split.ensures) (rw (← c.get.ensures, ← c.set.ensures) z))
 

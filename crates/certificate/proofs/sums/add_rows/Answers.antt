@@ -4,7 +4,7 @@ use Rattle.std.proofs.lemmas.List.{take_all}
 use Rattle.std.specs.Option.{option_copied}
 use Rattle.merlin_model.specs.Programs.{row_at}
 use Rattle.merlin_model.specs.Trees.{coefficient_in}
-use Rattle.integer_program.proofs.Bounds.{IsWithin}
+use Rattle.integer_program.specs.Bounds.{IsBounded}
 use Rattle.certificate.specs.Adding.{IsSum, sum_at}
 use Rattle.certificate.proofs.AtCutoffs.{is-at}
 use Rattle.certificate.proofs.RowSteps.{small-more}
@@ -25,7 +25,7 @@ add_row-requires g c =
       takes = c.requires.takes;
       size = c.requires.size;
       in_range = w.exists;
-      weight = subst (IsWithin (2 ^ 60)) (sym weight) w.small;
+      weight = subst (IsBounded (2 ^ 60)) (sym weight) w.small;
       sums = c.loop-w.invariant.size ∙ at.variables_same;
       least = c.loop-w.invariant.least;
       small = small-more (c.loop-w.w-index * 2 ^ 105) (2 ^ 124) c.loop-w.sums (omega arith) c.loop-w.invariant.small;

@@ -1,5 +1,5 @@
 use Rattle.std.specs.Fmt.{decimal}
-use Rattle.certificate_text.proofs.NodeLines.{no_number, no_end}
+use Rattle.merlin_base.proofs.NodeLines.{no_number, no_end}
 use Rattle.certificate_text.proofs.line.number_line.Goals as goal
 
 pub returns-in_default-clause-none : goal.returns-in_default-clause-none

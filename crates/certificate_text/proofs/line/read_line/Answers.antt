@@ -1,5 +1,5 @@
 use Rattle.std.proofs.Common.{refl}
-use Rattle.certificate_text.proofs.NodeLines.{no_node}
+use Rattle.merlin_base.proofs.NodeLines.{no_node}
 use Rattle.certificate_text.proofs.line.read_line.Goals as goal
 
 pub returns : goal.returns

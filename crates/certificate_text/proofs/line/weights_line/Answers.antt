@@ -1,7 +1,7 @@
 use Rattle.std.proofs.Common.{map}
-use Rattle.certificate_text.specs.Pairs.{pairs_text}
-use Rattle.certificate_text.specs.TreeTexts.{pair_of}
-use Rattle.certificate_text.proofs.NodeLines.{no_weights, no_end}
+use Rattle.merlin_base.specs.Pairs.{pairs_text}
+use Rattle.merlin_base.specs.NodeTexts.{pair_of}
+use Rattle.merlin_base.proofs.NodeLines.{no_weights, no_end}
 use Rattle.certificate_text.proofs.line.weights_line.Goals as goal
 
 pub returns-in_default-clause-none : goal.returns-in_default-clause-none

@@ -1,5 +1,5 @@
 use Rattle.std.proofs.Common.{◌≡◌, map, take}
-use Rattle.certificate_text.specs.TreeTexts.{pair_of}
+use Rattle.merlin_base.specs.NodeTexts.{pair_of}
 use Rattle.certificate_text.proofs.line.weights_of.Given as goal
 
 abbrev pub invariant-loop-row : goal.invariant-loop-row

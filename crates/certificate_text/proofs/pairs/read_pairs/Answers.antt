@@ -1,8 +1,8 @@
 use Rattle.std.proofs.Common.{◌≡◌, ◌≢◌, ◌==◌, ◌+◌, ◌++◌, ◌^◌, Bool, ℕ, pos, List, length, true, false, inl, inr, refl, sym, ◌∙◌, ap, subst, [], arith}
 use Rattle.std.proofs.lemmas.Int.{ints}
 use Rattle.integer_program.proofs.Bounds.{within}
-use Rattle.certificate_text.specs.Pairs.{pairs_text}
-use Rattle.certificate_text.proofs.PairTexts.{ArePairsTo, none_next, follows, cannot_follow, out_of_bound, is_zero, pairs_none, pairs_push, more_text}
+use Rattle.merlin_base.specs.Pairs.{pairs_text}
+use Rattle.merlin_base.proofs.PairTexts.{ArePairsTo, none_next, follows, cannot_follow, out_of_bound, is_zero, pairs_none, pairs_push, more_text}
 use Rattle.certificate_text.proofs.pairs.read_pairs.Goals as goal
 
 true-false : true ≡ false → ⊥

@@ -1,6 +1,6 @@
 use Rattle.std.proofs.Common.{◌≡◌, ◌++◌, ◌⊎◌, [], length}
-use Rattle.certificate_text.specs.Pairs.{pairs_text, IsEmptyOrBegins}
-use Rattle.certificate_text.proofs.PairTexts.{ArePairsTo}
+use Rattle.merlin_base.specs.Pairs.{pairs_text, IsEmptyOrBegins}
+use Rattle.merlin_base.proofs.PairTexts.{ArePairsTo}
 use Rattle.certificate_text.proofs.pairs.read_pairs.Given as goal
 
 abbrev pub invariant-loop-rest : goal.invariant-loop-rest

@@ -3,7 +3,8 @@ use Rattle.std.specs.List.{AllByRecursion}
 use Rattle.std.proofs.lemmas.List.{length-replicate}
 use Rattle.integer_program.specs.Plain.{plain_program}
 use Rattle.certificate_text.specs.ProgramTexts.{head_text, IsRowLine}
-use Rattle.certificate_text.specs.Outcomes.{IsFault}
+use Rattle.certificate_text.specs.Outcomes.{IsLineFault}
+use Rattle.certificate_text.specs.declared.fault.LineFault.TheVariants.{Wrong}
 use Rattle.certificate_text.proofs.NodeReads.{err_to}
 use Rattle.certificate_text.proofs.WholePrograms.{IsWrongWhole, rows_text, bad_head, wrong_rows, extra, is_row}
 use Rattle.certificate_text.proofs.program.read_whole_program.Goals as goal
@@ -21,7 +22,7 @@ rows-init c =
 
 pub returns-in_err-count-clause-err : goal.returns-in_err-count-clause-err
 returns-in_err-count-clause-err c =
-    err_to (IsFault (IsWrongWhole c.args.text.now)) c.from_residual.result c.in_err-count.field-0.0 c.from_residual.ensures.1 (bad_head c.args.text.now c.in_err-count.field-0.0 c.in_err-count.ensures.err)
+    err_to (IsLineFault (IsWrongWhole c.args.text.now)) c.from_residual.result (Wrong c.in_err-count.field-0.0) c.from_residual.ensures.1 (bad_head c.args.text.now (Wrong c.in_err-count.field-0.0) c.in_err-count.ensures.err)
 
 true-false : true ≡ false → ⊥
 true-false e = cc
@@ -34,10 +35,10 @@ returns-in-Some-clause-err c =
     extra c.args.text.now c.rows.rest.now c.in-Some.more.now c.in_ok-count.count (plain_program c.rows.program.variables c.rows.program.rows) (ap (λ n. replicate n true) c.rows.invariant.upper) c.rows.invariant.text c.in-Some.ensures.some
     c.rows.invariant.few c.rows.program.form.few_rows c.rows.invariant.each (some c.in-Some.more.now c.is_empty.result c.is_empty.ensures c.if-is_empty.false)
 
-pub returns-then-rows-eq-MOST_ROWS-clause-err : goal.returns-then-rows-eq-MOST_ROWS-clause-err
-returns-then-rows-eq-MOST_ROWS-clause-err c =
+pub returns-then-rows-eq-MAX_ROWS-clause-err : goal.returns-then-rows-eq-MAX_ROWS-clause-err
+returns-then-rows-eq-MAX_ROWS-clause-err c =
     wrong_rows c.args.text.now c.rows.rest.now c.in_ok-count.count c.rows.program.rows c.rows.invariant.text c.rows.invariant.few c.rows.program.form.few_rows c.rows.invariant.each c.in_default.ensures.none
-    (λ few row more is e. let n = c.rows-in-rows.ensures in let full = c.if-rows-eq-MOST_ROWS.true in omega arith)
+    (λ few row more is e. let n = c.rows-in-rows.ensures in let full = c.if-rows-eq-MAX_ROWS.true in omega arith)
 
 pub returns-in_default-2-clause-err : goal.returns-in_default-2-clause-err
 returns-in_default-2-clause-err c =

@@ -1,6 +1,6 @@
 use Rattle.std.proofs.Common.{◌≡◌, ◌++◌, map, take, string_bytes}
-use Rattle.certificate_text.specs.Pairs.{pairs_text}
-use Rattle.certificate_text.specs.TreeTexts.{pair_of}
+use Rattle.merlin_base.specs.Pairs.{pairs_text}
+use Rattle.merlin_base.specs.NodeTexts.{pair_of}
 use Rattle.certificate_text.proofs.tree.print_weights.Given as goal
 
 abbrev pub invariant-loop-w : goal.invariant-loop-w

@@ -1,5 +1,5 @@
 use Rattle.std.proofs.Common.{◌≡◌, ◌==◌, ℕ, Bool, List, [], length, true, false, sym, ◌∙◌, ap}
-use Rattle.certificate_text.specs.Outcomes.{IsFault}
+use Rattle.certificate_text.specs.Outcomes.{IsLineFault}
 use Rattle.certificate_text.proofs.NodeReads.{err_to}
 use Rattle.certificate_text.proofs.WholeTrees.{IsWrongWhole, no_start, bad_nodes, no_finish, extra, is_tree_text}
 use Rattle.certificate_text.proofs.tree.read_whole_tree.Goals as goal
@@ -15,7 +15,7 @@ returns-in_default-clause-err c = no_start c.args.text.now c.in_default.ensures.
 
 pub returns-in_err-tree-clause-err : goal.returns-in_err-tree-clause-err
 returns-in_err-tree-clause-err c =
-    err_to (IsFault (IsWrongWhole c.args.text.now)) c.from_residual.result c.in_err-tree.field-0.0 c.from_residual.ensures.1 (bad_nodes c.args.text.now c.in-Some.nodes.now c.in_err-tree.field-0.0 c.in-Some.ensures.some c.in_err-tree.ensures.err)
+    err_to (IsLineFault (IsWrongWhole c.args.text.now)) c.from_residual.result c.in_err-tree.field-0.0 c.from_residual.ensures.1 (bad_nodes c.args.text.now c.in-Some.nodes.now c.in_err-tree.field-0.0 c.in-Some.ensures.some c.in_err-tree.ensures.err)
 
 pub returns-in_default-after-clause-err : goal.returns-in_default-after-clause-err
 returns-in_default-after-clause-err c =

@@ -16,4 +16,4 @@ pub returns : goal.returns
 returns g c =
     let narrower = narrower_than_none _ _ _ _ _ (option_copied c.args.cutoff) (g.met.P.Program.cutoffs c.args.program.now) c.requires in
     let same = c.if-point-variables.false in
-    (λ e. record { size = same ∙ c.variables.ensures ∙ sym narrower.size; within = c.is_within.ensures.0 c.if-not-is_within.false; meets = c.meets_all.ensures.0 e }, λ s. c.meets_all.ensures.1 s.meets)
+    (λ e. record { size = same ∙ c.variables.ensures ∙ sym narrower.size; within = c.is_within.ensures.0 c.if-not-is_within.false; meets = c.meets_rows.ensures.0 e }, λ s. c.meets_rows.ensures.1 s.meets)

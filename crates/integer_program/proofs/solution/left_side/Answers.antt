@@ -1,6 +1,6 @@
 use Rattle.std.proofs.Common.{◌≡◌, ◌≤◌, ◌^◌, ◌+ℤ◌, pos, get_or, arith, to_z, w64, nat_abs, sym, ap, ◌∙◌}
 use Rattle.std.proofs.lemmas.Int.{ints}
-use Rattle.merlin_model.specs.Programs.{taken}
+use Rattle.merlin_model.specs.Programs.{coefficient_if}
 use Rattle.integer_program.proofs.Bounds.{within, all_at}
 use Rattle.integer_program.proofs.Sides.{left_more}
 use Rattle.integer_program.proofs.solution.left_side.Goals as goal
@@ -24,8 +24,8 @@ loop-variable-preserved c =
     elim c.if-point-variable.branch [
       | then-point-variable w ↦
           let sum : to_z w64 c.if-point-variable.left-bits ≡ to_z w64 c.loop-variable.left-bits +ℤ (get_or entries k (0, pos 0)).1 = let e = w.left-is in omega (arith, ints) in
-          more (sum ∙ ap (λ b. to_z w64 c.loop-variable.left-bits +ℤ taken b (get_or entries k (0, pos 0)).1) (sym w.if-point-variable.true))
+          more (sum ∙ ap (λ b. to_z w64 c.loop-variable.left-bits +ℤ coefficient_if b (get_or entries k (0, pos 0)).1) (sym w.if-point-variable.true))
       | else-point-variable w ↦
           let sum : to_z w64 c.if-point-variable.left-bits ≡ to_z w64 c.loop-variable.left-bits +ℤ pos 0 = let e = w.left-is in omega (arith, ints) in
-          more (sum ∙ ap (λ b. to_z w64 c.loop-variable.left-bits +ℤ taken b (get_or entries k (0, pos 0)).1) (sym w.if-point-variable.false))
+          more (sum ∙ ap (λ b. to_z w64 c.loop-variable.left-bits +ℤ coefficient_if b (get_or entries k (0, pos 0)).1) (sym w.if-point-variable.false))
     ]

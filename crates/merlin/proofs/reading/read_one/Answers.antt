@@ -1,5 +1,5 @@
 use Rattle.std.proofs.Common.{Err, ap}
-use Rattle.merlin.proofs.Parts.{IsUnread-one}
+use Rattle.merlin.proofs.Files.{IsUnread-one}
 use Rattle.merlin.proofs.reading.read_one.Goals as goal
 
 pub returns-in-Err-clause-err : goal.returns-in-Err-clause-err

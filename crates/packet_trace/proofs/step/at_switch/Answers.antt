@@ -1,6 +1,6 @@
 use Rattle.std.proofs.Common.{◌∙◌, length, sym, ap, subst, refl}
 use Rattle.std.proofs.lemmas.Option.{slice_get_read, slice_get_within}
-use Rattle.merlin_model.specs.Machine.{act, acting, at_switch}
+use Rattle.merlin_model.specs.Machine.{act, acting_rule, at_switch}
 use Rattle.merlin_model.proofs.ActsAt.{acts_only}
 use Rattle.merlin_model.proofs.Traces.{Some-inj}
 use Rattle.packet_trace.specs.Fitting.{frame_of, NoneFits}
@@ -21,6 +21,6 @@ returns-in-Some c =
     let same = Some-inj (sym found.1.stands ∙ at) in
     let acts = acts_only c.as_slice-rules.result.now (frame_of c.args.frame.now) c.in-Some.place found.0 found.1 in
     let actions = c.as_slice.ensures ∙ ap (λ rule. rule.actions) (sym c.index-rules-place.is ∙ sym same) in
-    let rule = sym (ap (λ rules. acting rules (frame_of c.args.frame.now)) c.as_slice-rules.ensures) ∙ acts in
+    let rule = sym (ap (λ rules. acting_rule rules (frame_of c.args.frame.now)) c.as_slice-rules.ensures) ∙ acts in
     c.act.ensures ∙ ap (λ actions. seen (act c.args.net.now (frame_of c.args.frame.now) c.args.frame.now.tag actions)) actions
     ∙ ap (λ o. seen (at_switch c.args.net.now (frame_of c.args.frame.now) o)) (sym rule)

@@ -12,7 +12,7 @@ use Rattle.path_automaton.specs.declared.fault.AutomatonFault.TheVariants.{TooMa
 use Rattle.path_automaton.specs.Classes.{AreClasses}
 use Rattle.path_automaton.specs.Followed.{AreExploring, IsExplored, HasMany}
 use Rattle.path_automaton.specs.Living.{AreInside, AreLiving}
-use Rattle.path_automaton.specs.Automata.{Tables, IsAutomatonOf, AreTablesOf}
+use Rattle.path_automaton.specs.Automata.{AutomatonTables, AcceptsWordsOf, AreTablesOfPath}
 use Rattle.path_automaton.specs.Inside.{tables_of, AreWhole}
 use Rattle.path_automaton.specs.Built.{IsBuilt}
 use Rattle.path_automaton.proofs.Building.{too_many-states}
@@ -28,7 +28,7 @@ found path c firsts e s h = subst (λ l. AreExploring (normal_of path) l e.state
 
 -- a fault that is passed on
 passed : (path : Path) (symbols : List Symbol) (c : Classes) (firsts : List Symbol) → AreClasses path symbols c → firsts ≡ c.firsts → (e : AutomatonFault) → IsExplored (normal_of path) firsts (Err e) →
-    (r : Result Tables AutomatonFault) → IsErrAnd r (λ f. f ≡ e) → IsBuilt path symbols r
+    (r : Result AutomatonTables AutomatonFault) → IsErrAnd r (λ f. f ≡ e) → IsBuilt path symbols r
 passed path symbols c firsts are s e h (Ok x) i = absurd i
 passed path symbols c firsts are s (TooManyStates count) h (Err g) i =
     subst (λ fault. IsBuilt path symbols (Err fault)) (sym i)
@@ -75,7 +75,7 @@ returns-clause-built c =
     subst (λ (l : List Bool). AreLiving e.rows l c.in_ok-living.living) (c.as_slice-3.ensures ∙ flags)
     (subst (λ (rows : List (List ℕ)). AreLiving rows c.as_slice-3.result.now c.in_ok-living.living) c.as_slice-2.ensures c.in_ok-living.ensures) in (
       e.states,
-      subst (λ (l : List Bool). AreTablesOf c.args.path.now c.args.symbols.now (tables_of e.rows classes.numbers l c.in_ok-living.living) e.states) (sym flags)
+      subst (λ (l : List Bool). AreTablesOfPath c.args.path.now c.args.symbols.now (tables_of e.rows classes.numbers l c.in_ok-living.living) e.states) (sym flags)
           (tables-are c.args.path.now c.args.symbols.now classes are e.states e.rows f.0 f.1 c.in_ok-living.living living),
       f.0.few,
     )
@@ -90,5 +90,5 @@ returns-clause-language c =
     let living : AreLiving e.rows (map takes_empty e.states) c.in_ok-living.living =
     subst (λ (l : List Bool). AreLiving e.rows l c.in_ok-living.living) (c.as_slice-3.ensures ∙ flags)
     (subst (λ (rows : List (List ℕ)). AreLiving rows c.as_slice-3.result.now c.in_ok-living.living) c.as_slice-2.ensures c.in_ok-living.ensures) in
-    subst (λ (l : List Bool). HasNoFunctionUnderNot c.args.path.now → IsAutomatonOf c.args.symbols.now (tables_of e.rows classes.numbers l c.in_ok-living.living) c.args.path.now) (sym flags)
+    subst (λ (l : List Bool). HasNoFunctionUnderNot c.args.path.now → AcceptsWordsOf c.args.symbols.now c.args.path.now (tables_of e.rows classes.numbers l c.in_ok-living.living)) (sym flags)
     (is-automaton c.args.path.now c.args.symbols.now classes are e.states e.rows f.0 f.1 c.in_ok-living.living living)

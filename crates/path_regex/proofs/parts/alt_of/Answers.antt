@@ -8,6 +8,6 @@ use Rattle.path_regex.proofs.parts.alt_of.Goals as goal
 pub loop-path-preserved : goal.loop-path-preserved
 loop-path-preserved c =
     ap (λ (others : List Path). added_all (flat_map members c.pop.new.self) others) c.in_ok-add_members.ensures
-    ∙ sym (added_all-append (flat_map members c.pop.new.self) (members c.in-Some.path) c.loop-path.ascending.items)
-    ∙ ap (λ (paths : List Path). added_all paths c.loop-path.ascending.items) (sym (flat_map-last c.pop.new.self c.in-Some.path) ∙ ap (λ (paths : List Path). flat_map members paths) (sym c.in-Some.ensures))
+    ∙ sym (added_all-append (flat_map members c.pop.new.self) (members c.in-Some.path) c.loop-path.ordered.items)
+    ∙ ap (λ (paths : List Path). added_all paths c.loop-path.ordered.items) (sym (flat_map-last c.pop.new.self c.in-Some.path) ∙ ap (λ (paths : List Path). flat_map members paths) (sym c.in-Some.ensures))
     ∙ c.loop-path.invariant

@@ -4,7 +4,7 @@ use Rattle.merlin_model.specs.Networks.{IsHost, IsSwitch}
 use Rattle.rules_model.specs.Plain.{IsNextHop}
 use Rattle.plain_compile.specs.Hops.{hop_of}
 use Rattle.plain_compile.specs.Routes.{next_in}
-use Rattle.plain_compile.proofs.Grounds.{one_more, host_within, no_host}
+use Rattle.plain_compile.proofs.Graphs.{one_more, host_within, no_host}
 use Rattle.plain_compile.proofs.routes.routes_of.Goals.{in-Some+in_ok-hops-in-Some, in-None}
 use Rattle.plain_compile.proofs.routes.routes_of.Goals as goal
 

@@ -1,7 +1,7 @@
 use Rattle.std.proofs.Common.{◌≡◌, ap, ◌∙◌, subst, map, length, arith, ◌≤◌}
 use Rattle.std.proofs.lemmas.List.{take_all}
 use Rattle.merlin_model.specs.Networks.{AreDifferent}
-use Rattle.topology.specs.Tables.{names_in}
+use Rattle.topology.specs.Tables.{texts_of_keys}
 use Rattle.topology.proofs.Tabled.{old_name, names_differ, not_new}
 use Rattle.topology.proofs.index.numbers_of.Goals as goal
 
@@ -11,5 +11,5 @@ returns-then-not-branch-clause-err c = old_name c.loop-location.numbers.keys c.a
 pub returns-clause-ok : goal.returns-clause-ok
 returns-clause-ok c =
     let past : length c.args.locations.now ≤ c.loop-location.location-index = omega arith in
-    let whole : names_in c.loop-location.numbers.keys ≡ map (λ l. l.name) c.args.locations.now = c.loop-location.invariant.same ∙ ap (map (λ l. l.name)) (take_all c.loop-location.location-index c.args.locations.now past) in
+    let whole : texts_of_keys c.loop-location.numbers.keys ≡ map (λ l. l.name) c.args.locations.now = c.loop-location.invariant.same ∙ ap (map (λ l. l.name)) (take_all c.loop-location.location-index c.args.locations.now past) in
     (whole, subst AreDifferent whole (names_differ c.loop-location.numbers.keys c.loop-location.invariant.apart))

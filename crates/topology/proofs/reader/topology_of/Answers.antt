@@ -3,15 +3,15 @@ use Rattle.std.proofs.lemmas.Result.{err_from_is_err_and}
 use Rattle.serde_json.specs.View.{view}
 use Rattle.merlin_model.specs.declared.network.Location.{Location}
 use Rattle.merlin_model.specs.declared.network.Link.{Link}
-use Rattle.merlin_model.specs.declared.network.Wire.{Wire}
-use Rattle.merlin_model.specs.Networks.{Network, wires_of, AreDifferent}
+use Rattle.merlin_model.specs.declared.network.DirectedLink.{DirectedLink}
+use Rattle.merlin_model.specs.Networks.{Network, directed_links_of, AreDifferent}
 use Rattle.topology.specs.Format.{AreLinksOf, IsTopologyOf}
 use Rattle.topology.specs.Rules.{HaveNoMiddlebox}
-use Rattle.topology.specs.Laws.{HostsDiffer, WiresDiffer, HostsAreLinked}
-use Rattle.topology.specs.Tables.{names_in, AreTablesOf}
+use Rattle.topology.specs.Laws.{HostsDiffer, DirectedLinksDiffer, HostsAreLinked}
+use Rattle.topology.specs.Tables.{texts_of_keys, AreLinkTables}
 use Rattle.topology.proofs.Elements.{excuses_from}
 use Rattle.topology.proofs.Keeping.{described_keeps}
-use Rattle.topology.proofs.Asked.{no_middlebox, names_differ, hosts_differ, some_links, wires_differ, hosts_linked, is_read}
+use Rattle.topology.proofs.Asked.{no_middlebox, names_differ, hosts_differ, some_links, directed_links_differ, hosts_linked, is_read}
 use Rattle.topology.proofs.reader.topology_of.Goals as goal
 
 pub returns-in_err-locations-clause-err : goal.returns-in_err-locations-clause-err
@@ -34,7 +34,7 @@ returns-in_err-ask_hosts-clause-err c =
 pub returns-in_err-links-clause-err : goal.returns-in_err-links-clause-err
 returns-in_err-links-clause-err c =
     let d = view c.args.value.now in
-    let names : names_in c.in_ok-numbers.numbers.keys ≡ map (λ l. l.name) c.in_ok-locations.locations.items = c.in_ok-numbers.ensures.ok.0 ∙ ap (map (λ l. l.name)) c.deref-2.ensures.value in
+    let names : texts_of_keys c.in_ok-numbers.numbers.keys ≡ map (λ l. l.name) c.in_ok-locations.locations.items = c.in_ok-numbers.ensures.ok.0 ∙ ap (map (λ l. l.name)) c.deref-2.ensures.value in
     let p = err_from_is_err_and c.from_residual-in_err-links.result c.from_residual-in_err-links.ensures.1 in
     rw (p.1, p.2) (excuses_from (λ (found : (net : Network) × IsTopologyOf d net). subst (λ (ns : List (List ℕ)). (links : List Link) × AreLinksOf ns d links) (sym names) (some_links d c.in_ok-locations.locations.items c.in_ok-locations.ensures.ok found)) _ c.in_err-links.ensures.err)
 
@@ -43,12 +43,12 @@ returns-in_err-tables-clause-err c =
     let d = view c.args.value.now in
     let ls = c.in_ok-locations.locations.items in
     let ks = c.in_ok-links.links.items in
-    let names : names_in c.in_ok-numbers.numbers.keys ≡ map (λ l. l.name) ls = c.in_ok-numbers.ensures.ok.0 ∙ ap (map (λ l. l.name)) c.deref-2.ensures.value in
+    let names : texts_of_keys c.in_ok-numbers.numbers.keys ≡ map (λ l. l.name) ls = c.in_ok-numbers.ensures.ok.0 ∙ ap (map (λ l. l.name)) c.deref-2.ensures.value in
     let joined : AreLinksOf (map (λ l. l.name) ls) d ks = subst (λ (ns : List (List ℕ)). AreLinksOf ns d ks) names c.in_ok-links.ensures.ok in
     let differ : AreDifferent (map (λ l. l.name) ls) = subst (λ (xs : List Location). AreDifferent (map (λ l. l.name) xs)) c.deref-2.ensures.value c.in_ok-numbers.ensures.ok.1 in
-    let wired : c.deref-5.result.now ≡ wires_of ks = c.deref-5.ensures.value ∙ (c.in_ok-wires.ensures ∙ ap wires_of c.deref-4.ensures.value) in
+    let linked_both : c.deref-5.result.now ≡ directed_links_of ks = c.deref-5.ensures.value ∙ (c.in_ok-directed_links.ensures ∙ ap directed_links_of c.deref-4.ensures.value) in
     let p = err_from_is_err_and c.from_residual-in_err-tables.result c.from_residual-in_err-tables.ensures.1 in
-    rw (p.1, p.2) (excuses_from (λ (found : (net : Network) × IsTopologyOf d net). subst WiresDiffer (sym wired) (wires_differ d ls c.in_ok-locations.ensures.ok ks joined differ found)) _ c.in_err-tables.ensures.err)
+    rw (p.1, p.2) (excuses_from (λ (found : (net : Network) × IsTopologyOf d net). subst DirectedLinksDiffer (sym linked_both) (directed_links_differ d ls c.in_ok-locations.ensures.ok ks joined differ found)) _ c.in_err-tables.ensures.err)
 
 clash : {b : Bool} → b ≡ false → b ≡ true → ⊥
 clash {b} e f = never (sym e ∙ f)
@@ -65,32 +65,32 @@ returns-then-not-hosts_are_linked-clause-err c = λ found.
     let d = view c.args.value.now in
     let ls = c.in_ok-locations.locations.items in
     let ks = c.in_ok-links.links.items in
-    let names : names_in c.in_ok-numbers.numbers.keys ≡ map (λ l. l.name) ls = c.in_ok-numbers.ensures.ok.0 ∙ ap (map (λ l. l.name)) c.deref-2.ensures.value in
+    let names : texts_of_keys c.in_ok-numbers.numbers.keys ≡ map (λ l. l.name) ls = c.in_ok-numbers.ensures.ok.0 ∙ ap (map (λ l. l.name)) c.deref-2.ensures.value in
     let joined : AreLinksOf (map (λ l. l.name) ls) d ks = subst (λ (ns : List (List ℕ)). AreLinksOf ns d ks) names c.in_ok-links.ensures.ok in
     let differ : AreDifferent (map (λ l. l.name) ls) = subst (λ (xs : List Location). AreDifferent (map (λ l. l.name) xs)) c.deref-2.ensures.value c.in_ok-numbers.ensures.ok.1 in
-    let wired : c.deref-7.result.now ≡ wires_of ks = c.deref-7.ensures.value ∙ (c.in_ok-wires.ensures ∙ ap wires_of c.deref-4.ensures.value) in
+    let linked_both : c.deref-7.result.now ≡ directed_links_of ks = c.deref-7.ensures.value ∙ (c.in_ok-directed_links.ensures ∙ ap directed_links_of c.deref-4.ensures.value) in
     let linked = hosts_linked d ls c.in_ok-locations.ensures.ok ks joined differ found in
-    clash c.if-not-hosts_are_linked.true (c.hosts_are_linked.ensures.1 (subst (λ (xs : List Location). HostsAreLinked xs c.deref-7.result.now) (sym c.deref-6.ensures.value) (subst (HostsAreLinked ls) (sym wired) linked)))
+    clash c.if-not-hosts_are_linked.true (c.hosts_are_linked.ensures.1 (subst (λ (xs : List Location). HostsAreLinked xs c.deref-7.result.now) (sym c.deref-6.ensures.value) (subst (HostsAreLinked ls) (sym linked_both) linked)))
 
 pub invariant_of-result : goal.invariant_of-result
 invariant_of-result c =
     let d = view c.args.value.now in
     let ls = c.in_ok-locations.locations.items in
     let ks = c.in_ok-links.links.items in
-    let names : names_in c.in_ok-numbers.numbers.keys ≡ map (λ l. l.name) ls = c.in_ok-numbers.ensures.ok.0 ∙ ap (map (λ l. l.name)) c.deref-2.ensures.value in
-    let wired : c.deref-5.result.now ≡ wires_of ks = c.deref-5.ensures.value ∙ (c.in_ok-wires.ensures ∙ ap wires_of c.deref-4.ensures.value) in
+    let names : texts_of_keys c.in_ok-numbers.numbers.keys ≡ map (λ l. l.name) ls = c.in_ok-numbers.ensures.ok.0 ∙ ap (map (λ l. l.name)) c.deref-2.ensures.value in
+    let linked_both : c.deref-5.result.now ≡ directed_links_of ks = c.deref-5.ensures.value ∙ (c.in_ok-directed_links.ensures ∙ ap directed_links_of c.deref-4.ensures.value) in
     let same : c.deref-7.result.now ≡ c.deref-5.result.now = c.deref-7.ensures.value ∙ sym c.deref-5.ensures.value in
-    let is = is_read d ls c.in_ok-locations.ensures.ok ks (names_in c.in_ok-numbers.numbers.keys) names c.in_ok-links.ensures.ok
+    let is = is_read d ls c.in_ok-locations.ensures.ok ks (texts_of_keys c.in_ok-numbers.numbers.keys) names c.in_ok-links.ensures.ok
     (subst (λ (xs : List Location). AreDifferent (map (λ l. l.name) xs)) c.deref-2.ensures.value c.in_ok-numbers.ensures.ok.1)
     (c.has_no_functions.ensures.0 c.if-not-has_no_functions.false)
     (subst HaveNoMiddlebox c.deref.ensures.value (c.have_no_middlebox.ensures.0 c.if-not-have_no_middlebox.false))
     (subst HostsDiffer c.deref-3.ensures.value c.in_ok-ask_hosts.ensures.ok)
-    c.deref-5.result.now wired c.in_ok-tables.ensures.ok.1
+    c.deref-5.result.now linked_both c.in_ok-tables.ensures.ok.1
     (subst (HostsAreLinked ls) same (subst (λ (xs : List Location). HostsAreLinked xs c.deref-7.result.now) c.deref-6.ensures.value (c.hosts_are_linked.ensures.0 c.if-not-hosts_are_linked.false))) in
     record {
       lawful = described_keeps d _ is;
       numbers = names;
-      tables = subst (λ (ws : List Wire). AreTablesOf c.in_ok-tables.tables.far_ends.entries c.in_ok-tables.tables.ports.entries ws) wired c.in_ok-tables.ensures.ok.0;
+      tables = subst (λ (ws : List DirectedLink). AreLinkTables c.in_ok-tables.tables.far_ends.entries c.in_ok-tables.tables.ports.entries ws) linked_both c.in_ok-tables.ensures.ok.0;
     }
 
 pub returns-clause-ok : goal.returns-clause-ok
@@ -98,13 +98,13 @@ returns-clause-ok c =
     let d = view c.args.value.now in
     let ls = c.in_ok-locations.locations.items in
     let ks = c.in_ok-links.links.items in
-    let names : names_in c.in_ok-numbers.numbers.keys ≡ map (λ l. l.name) ls = c.in_ok-numbers.ensures.ok.0 ∙ ap (map (λ l. l.name)) c.deref-2.ensures.value in
-    let wired : c.deref-5.result.now ≡ wires_of ks = c.deref-5.ensures.value ∙ (c.in_ok-wires.ensures ∙ ap wires_of c.deref-4.ensures.value) in
+    let names : texts_of_keys c.in_ok-numbers.numbers.keys ≡ map (λ l. l.name) ls = c.in_ok-numbers.ensures.ok.0 ∙ ap (map (λ l. l.name)) c.deref-2.ensures.value in
+    let linked_both : c.deref-5.result.now ≡ directed_links_of ks = c.deref-5.ensures.value ∙ (c.in_ok-directed_links.ensures ∙ ap directed_links_of c.deref-4.ensures.value) in
     let same : c.deref-7.result.now ≡ c.deref-5.result.now = c.deref-7.ensures.value ∙ sym c.deref-5.ensures.value in
-    is_read d ls c.in_ok-locations.ensures.ok ks (names_in c.in_ok-numbers.numbers.keys) names c.in_ok-links.ensures.ok
+    is_read d ls c.in_ok-locations.ensures.ok ks (texts_of_keys c.in_ok-numbers.numbers.keys) names c.in_ok-links.ensures.ok
     (subst (λ (xs : List Location). AreDifferent (map (λ l. l.name) xs)) c.deref-2.ensures.value c.in_ok-numbers.ensures.ok.1)
     (c.has_no_functions.ensures.0 c.if-not-has_no_functions.false)
     (subst HaveNoMiddlebox c.deref.ensures.value (c.have_no_middlebox.ensures.0 c.if-not-have_no_middlebox.false))
     (subst HostsDiffer c.deref-3.ensures.value c.in_ok-ask_hosts.ensures.ok)
-    c.deref-5.result.now wired c.in_ok-tables.ensures.ok.1
+    c.deref-5.result.now linked_both c.in_ok-tables.ensures.ok.1
     (subst (HostsAreLinked ls) same (subst (λ (xs : List Location). HostsAreLinked xs c.deref-7.result.now) c.deref-6.ensures.value (c.hosts_are_linked.ensures.0 c.if-not-hosts_are_linked.false)))

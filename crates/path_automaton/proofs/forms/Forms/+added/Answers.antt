@@ -1,6 +1,6 @@
 use Rattle.std.proofs.Common.{IfOk, sym, ◌∙◌, ap, subst, arith}
 use Rattle.merlin_model.specs.declared.policy.Path.{Path}
-use Rattle.path_automaton.specs.Shared.{alt_by, Names}
+use Rattle.path_automaton.specs.Shared.{alt_by, IsFormAt}
 use Rattle.path_automaton.proofs.Sharing.{kept, within}
 use Rattle.path_automaton.proofs.Joined.{members-at, parts-Alt, named-chain, added-less, added-equal, added-greater}
 use Rattle.path_automaton.proofs.forms.Forms.+added.Goals as goal
@@ -14,7 +14,7 @@ put-requires-in-Greater t c =
 
 pub returns-in-Less-clause-value : goal.returns-in-Less-clause-value
 returns-in-Less-clause-value t c =
-    subst (λ (a : Path). IfOk c.put-in-Less.result (λ all. Names c.put-in-Less.new.self all a))
+    subst (λ (a : Path). IfOk c.put-in-Less.result (λ all. IsFormAt c.put-in-Less.new.self all a))
     (added-less _ _ _ _ (members-at _ _ _ c.node.ensures _ _ c.in-Alt.is) (sym c.compare.ensures ∙ c.in-Less.is))
     c.put-in-Less.ensures.value
 
@@ -27,7 +27,7 @@ returns-in_ok-rest-in-Greater-clause-value t c =
     let parts = parts-Alt _ _ _ c.node.ensures _ _ c.in-Alt.is in
     let other = parts.0 in
     let others = c.requires.others in
-    subst (λ (a : Path). IfOk c.put-in-Greater.result (λ all. Names c.put-in-Greater.new.self all a))
+    subst (λ (a : Path). IfOk c.put-in-Greater.result (λ all. IsFormAt c.put-in-Greater.new.self all a))
     (added-greater _ _ _ _ _ _ (members-at _ _ _ c.node.ensures _ _ c.in-Alt.is) (sym c.compare.ensures ∙ c.in-Greater.is)
     (kept c.in_ok-rest-in-Greater.ensures.grows c.in-Alt.other (omega arith)) c.in_ok-rest-in-Greater.ensures.value.1)
     c.put-in-Greater.ensures.value

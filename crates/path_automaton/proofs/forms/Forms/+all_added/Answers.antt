@@ -1,7 +1,7 @@
 use Rattle.std.proofs.Common.{List, IfOk, sym, ◌∙◌, ap, ap₂, subst, arith}
 use Rattle.merlin_model.specs.declared.policy.Path.{Path}
 use Rattle.path_regex.specs.Normal.{members, added, added_all}
-use Rattle.path_automaton.specs.Shared.{form_at, alt_by, Names}
+use Rattle.path_automaton.specs.Shared.{form_at, alt_by, IsFormAt}
 use Rattle.path_automaton.proofs.Sharing.{kept}
 use Rattle.path_automaton.proofs.Joined.{members-at, parts-Alt, named-chain, named-members}
 use Rattle.path_automaton.proofs.forms.Forms.+all_added.Goals as goal
@@ -14,7 +14,7 @@ returns-in_ok-others-in-Alt-clause-value t c =
     let parts = parts-Alt _ _ _ c.node.ensures _ _ c.in-Alt.is in
     let first = parts.0 in
     let form = c.requires.form in
-    subst (λ (a : Path). IfOk c.added.result (λ all. Names c.added.new.self all a))
+    subst (λ (a : Path). IfOk c.added.result (λ all. IsFormAt c.added.new.self all a))
     (ap₂ (λ a l. alt_by (added a l)) (kept c.in_ok-others-in-Alt.ensures.grows c.in-Alt.first (omega arith)) (named-members c.all_added.new.self c.in_ok-others-in-Alt.others _ c.in_ok-others-in-Alt.ensures.value.1)
     ∙ sym (ap (λ (l : List Path). alt_by (added_all l (members (form_at c.args.self.now c.args.others)))) (members-at _ _ _ c.node.ensures _ _ c.in-Alt.is)))
     c.added.ensures.value

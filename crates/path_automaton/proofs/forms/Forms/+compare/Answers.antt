@@ -2,8 +2,8 @@ use Rattle.std.proofs.Common.{◌≡◌, ◌≤◌, ◌⊎◌, inl, inr, ap, sub
 use Rattle.std.specs.Ordering.{is_eq, ordering_then}
 use Rattle.path_regex.specs.Order.{order}
 use Rattle.path_regex.proofs.Ordered.{decides}
-use Rattle.path_automaton.specs.declared.forms.Node.{Node}
-use Rattle.path_automaton.specs.declared.forms.Node.TheVariants.{Nothing as NodeNothing, Empty as NodeEmpty, Dot as NodeDot}
+use Rattle.path_automaton.specs.declared.forms.FormNode.{FormNode}
+use Rattle.path_automaton.specs.declared.forms.FormNode.TheVariants.{Nothing as NodeNothing, Empty as NodeEmpty, Dot as NodeDot}
 use Rattle.path_automaton.specs.Shared.{form_at, node_rank}
 use Rattle.path_automaton.proofs.Ranked.{order-itself, ranked-nodes, ranked-plainly, both-Cat, both-Alt, both-Star, both-Not, other-Loc, other-Fun, other-Cat, other-Alt, other-Star, other-Not}
 use Rattle.path_automaton.proofs.forms.Forms.+compare.Goals as goal
@@ -13,42 +13,42 @@ returns-then-first-second t c =
     order-itself (form_at c.args.self.now c.args.first)
     ∙ ap (λ k. order (form_at c.args.self.now c.args.first) (form_at c.args.self.now k)) c.if-first-second.true
 
-low : (n : Node) → (n ≡ NodeNothing) ⊎ ((n ≡ NodeEmpty) ⊎ (n ≡ NodeDot)) → node_rank n ≤ 3
+low : (n : FormNode) → (n ≡ NodeNothing) ⊎ ((n ≡ NodeEmpty) ⊎ (n ≡ NodeDot)) → node_rank n ≤ 3
 low n (inl e) = subst (λ z. node_rank z ≤ 3) (sym e) (omega arith)
 low n (inr (inl e)) = subst (λ z. node_rank z ≤ 3) (sym e) (omega arith)
 low n (inr (inr e)) = subst (λ z. node_rank z ≤ 3) (sym e) (omega arith)
 
 pub returns-in-Nothing : goal.returns-in-Nothing
-returns-in-Nothing t c = ranked-plainly _ _ _ _ _ c.node-one.ensures c.node-two.ensures _ _ _ c.cmp-ranks.ensures c.rank.ensures c.rank-2.ensures (low _ c.in-Nothing.is)
+returns-in-Nothing t c = ranked-plainly _ _ _ _ _ c.node-one.ensures c.node-two.ensures _ _ _ c.cmp-ranks.ensures c.node_rank.ensures c.node_rank-2.ensures (low _ c.in-Nothing.is)
 
 pub returns-in_default : goal.returns-in_default
 returns-in_default t c =
-    ranked-nodes _ _ _ _ _ c.node-one.ensures c.node-two.ensures _ _ _ c.cmp-ranks.ensures c.rank.ensures c.rank-2.ensures
+    ranked-nodes _ _ _ _ _ c.node-one.ensures c.node-two.ensures _ _ _ c.cmp-ranks.ensures c.node_rank.ensures c.node_rank-2.ensures
     (ap (λ z. is_eq (nat_cmp (node_rank z) (node_rank c.node-two.result))) c.in-Loc.is ∙ other-Loc _ c.in_default.not-Loc)
 
 pub returns-in_default-two : goal.returns-in_default-two
 returns-in_default-two t c =
-    ranked-nodes _ _ _ _ _ c.node-one.ensures c.node-two.ensures _ _ _ c.cmp-ranks.ensures c.rank.ensures c.rank-2.ensures
+    ranked-nodes _ _ _ _ _ c.node-one.ensures c.node-two.ensures _ _ _ c.cmp-ranks.ensures c.node_rank.ensures c.node_rank-2.ensures
     (ap (λ z. is_eq (nat_cmp (node_rank z) (node_rank c.node-two.result))) c.in-Fun.is ∙ other-Fun _ c.in_default-two.not-Fun)
 
 pub returns-in_default-two-2 : goal.returns-in_default-two-2
 returns-in_default-two-2 t c =
-    ranked-nodes _ _ _ _ _ c.node-one.ensures c.node-two.ensures _ _ _ c.cmp-ranks.ensures c.rank.ensures c.rank-2.ensures
+    ranked-nodes _ _ _ _ _ c.node-one.ensures c.node-two.ensures _ _ _ c.cmp-ranks.ensures c.node_rank.ensures c.node_rank-2.ensures
     (ap (λ z. is_eq (nat_cmp (node_rank z) (node_rank c.node-two.result))) c.in-Cat.is ∙ other-Cat _ c.in_default-two-2.not-Cat)
 
 pub returns-in_default-two-3 : goal.returns-in_default-two-3
 returns-in_default-two-3 t c =
-    ranked-nodes _ _ _ _ _ c.node-one.ensures c.node-two.ensures _ _ _ c.cmp-ranks.ensures c.rank.ensures c.rank-2.ensures
+    ranked-nodes _ _ _ _ _ c.node-one.ensures c.node-two.ensures _ _ _ c.cmp-ranks.ensures c.node_rank.ensures c.node_rank-2.ensures
     (ap (λ z. is_eq (nat_cmp (node_rank z) (node_rank c.node-two.result))) c.in-Alt.is ∙ other-Alt _ c.in_default-two-3.not-Alt)
 
 pub returns-in_default-two-4 : goal.returns-in_default-two-4
 returns-in_default-two-4 t c =
-    ranked-nodes _ _ _ _ _ c.node-one.ensures c.node-two.ensures _ _ _ c.cmp-ranks.ensures c.rank.ensures c.rank-2.ensures
+    ranked-nodes _ _ _ _ _ c.node-one.ensures c.node-two.ensures _ _ _ c.cmp-ranks.ensures c.node_rank.ensures c.node_rank-2.ensures
     (ap (λ z. is_eq (nat_cmp (node_rank z) (node_rank c.node-two.result))) c.in-Star.is ∙ other-Star _ c.in_default-two-4.not-Star)
 
 pub returns-in_default-two-5 : goal.returns-in_default-two-5
 returns-in_default-two-5 t c =
-    ranked-nodes _ _ _ _ _ c.node-one.ensures c.node-two.ensures _ _ _ c.cmp-ranks.ensures c.rank.ensures c.rank-2.ensures
+    ranked-nodes _ _ _ _ _ c.node-one.ensures c.node-two.ensures _ _ _ c.cmp-ranks.ensures c.node_rank.ensures c.node_rank-2.ensures
     (ap (λ z. is_eq (nat_cmp (node_rank z) (node_rank c.node-two.result))) c.in-Not.is ∙ other-Not _ c.in_default-two-5.not-Not)
 
 pub returns-in-Equal : goal.returns-in-Equal

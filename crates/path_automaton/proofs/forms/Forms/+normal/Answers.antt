@@ -3,7 +3,7 @@ use Rattle.std.proofs.Math.Seq.{take-suc}
 use Rattle.merlin_model.specs.declared.policy.Path.{Path}
 use Rattle.path_regex.specs.Normal.{cat_of, alt_of, star_of, not_of, normal_of}
 use Rattle.path_regex.proofs.Shapes.{normal_of-Cat, normal_of-Alt, normal_of-Star, normal_of-Not}
-use Rattle.path_automaton.specs.Shared.{Names}
+use Rattle.path_automaton.specs.Shared.{IsFormAt}
 use Rattle.path_automaton.proofs.Sharing.{kept}
 use Rattle.path_automaton.proofs.Joined.{AreNormal, more-normal}
 use Rattle.path_automaton.proofs.forms.Forms.+normal.Goals as goal
@@ -21,7 +21,7 @@ loop-path-preserved t c =
 
 pub returns-in_ok-rest-in-Cat-clause-value : goal.returns-in_ok-rest-in-Cat-clause-value
 returns-in_ok-rest-in-Cat-clause-value t c =
-    subst (λ (a : Path). IfOk c.cat_of.result (λ form. Names c.cat_of.new.self form a))
+    subst (λ (a : Path). IfOk c.cat_of.result (λ form. IsFormAt c.cat_of.new.self form a))
     (ap₂ cat_of (kept c.in_ok-rest-in-Cat.ensures.grows c.in_ok-first-in-Cat.first c.in_ok-first-in-Cat.ensures.value.0 ∙ c.in_ok-first-in-Cat.ensures.value.1 ∙ ap normal_of c.get.ensures)
     (c.in_ok-rest-in-Cat.ensures.value.1 ∙ ap normal_of c.get-in-Cat.ensures)
     ∙ sym (ap normal_of c.in-Cat.is ∙ normal_of-Cat _ _))
@@ -29,19 +29,19 @@ returns-in_ok-rest-in-Cat-clause-value t c =
 
 pub returns-after-loop-path-clause-value : goal.returns-after-loop-path-clause-value
 returns-after-loop-path-clause-value t c =
-    subst (λ (a : Path). IfOk c.alt_of.result (λ form. Names c.alt_of.new.self form a))
+    subst (λ (a : Path). IfOk c.alt_of.result (λ form. IsFormAt c.alt_of.new.self form a))
     (ap alt_of (c.loop-path.invariant.same ∙ ap (map normal_of) (take_all c.loop-path.path-index c.as_slice-path-items.result.now c.loop-path-test.false ∙ c.as_slice-path-items.ensures))
     ∙ sym (ap normal_of c.in-Alt.is ∙ normal_of-Alt _))
     c.alt_of.ensures.value
 
 pub returns-in_ok-inner-in-Star-clause-value : goal.returns-in_ok-inner-in-Star-clause-value
 returns-in_ok-inner-in-Star-clause-value t c =
-    subst (λ (a : Path). IfOk c.star_of.result (λ form. Names c.star_of.new.self form a))
+    subst (λ (a : Path). IfOk c.star_of.result (λ form. IsFormAt c.star_of.new.self form a))
     (ap star_of (c.in_ok-inner-in-Star.ensures.value.1 ∙ ap normal_of c.get-in-Star.ensures) ∙ sym (ap normal_of c.in-Star.is ∙ normal_of-Star _))
     c.star_of.ensures.value
 
 pub returns-in_ok-inner-in-Not-clause-value : goal.returns-in_ok-inner-in-Not-clause-value
 returns-in_ok-inner-in-Not-clause-value t c =
-    subst (λ (a : Path). IfOk c.not_of.result (λ form. Names c.not_of.new.self form a))
+    subst (λ (a : Path). IfOk c.not_of.result (λ form. IsFormAt c.not_of.new.self form a))
     (ap not_of (c.in_ok-inner-in-Not.ensures.value.1 ∙ ap normal_of c.get-in-Not.ensures) ∙ sym (ap normal_of c.in-Not.is ∙ normal_of-Not _))
     c.not_of.ensures.value

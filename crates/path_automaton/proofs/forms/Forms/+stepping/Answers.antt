@@ -1,10 +1,10 @@
 use Rattle.std.proofs.Common.{rules, ◌∷◌, [], IfOk, List, ℕ, Option, map, sym, ◌∙◌, ap, ap₂, subst, arith}
 use Rattle.std.specs.List.{flat_map}
 use Rattle.merlin_model.specs.declared.policy.Path.{Path}
-use Rattle.path_regex.specs.Normal.{members, added_all, ascending, one_of, cat_of, alt_of, not_of}
+use Rattle.path_regex.specs.Normal.{members, added_all, in_order_of, one_of, cat_of, alt_of, not_of}
 use Rattle.path_regex.specs.Derivatives.{takes_empty, with_next, not_if, has_no_function, derivative_of}
 use Rattle.path_regex.proofs.Shapes.{added_all-append, derivative_of-Cat, derivative_of-Alt, derivative_of-Star, derivative_of-Not}
-use Rattle.path_automaton.specs.Shared.{form_at, alt_by, Names}
+use Rattle.path_automaton.specs.Shared.{form_at, alt_by, IsFormAt}
 use Rattle.path_automaton.proofs.Sharing.{kept, grows-twice}
 use Rattle.path_automaton.proofs.Joined.{is-Cat, is-Alt, is-Star, is-Not, parts-Cat, parts-Alt, members-at, alt-chain, named-chain, named-members}
 use Rattle.path_automaton.proofs.forms.Forms.+stepping.Goals as goal
@@ -42,7 +42,7 @@ derivative-returns-in_ok-other-in-Cat-clause-value t c =
     let way = kept c.in_ok-other-in-Cat.ensures.grows c.in_ok-way-in-Cat.way c.in_ok-way-in-Cat.ensures.value.0 ∙ c.in_ok-way-in-Cat.ensures.value.1
     ∙ ap₂ cat_of c.in_ok-after-in-Cat.ensures.value.1 (kept g c.in-Cat.rest (omega arith)) in
     let next = c.in_ok-other-in-Cat.ensures.value.1 ∙ ap (λ (a : Path). derivative_of a c.args.symbol) (kept both c.in-Cat.rest (omega arith)) in
-    subst (λ (a : Path). IfOk c.either.result (λ rest. Names c.either.new.self rest a))
+    subst (λ (a : Path). IfOk c.either.result (λ rest. IsFormAt c.either.new.self rest a))
     (ap₂ (λ (a b : Path). alt_of (a ∷ b ∷ [])) way next
     ∙ sym (ap (λ (a : Path). derivative_of a c.args.symbol) (is-Cat _ _ _ c.node.ensures _ _ c.in-Cat.is) ∙ derivative_of-Cat _ _ _
     ∙ ap (λ b. with_next b (cat_of (derivative_of (form_at c.args.self.now c.in-Cat.first) c.args.symbol) (form_at c.args.self.now c.in-Cat.rest)) (derivative_of (form_at c.args.self.now c.in-Cat.rest) c.args.symbol)) goes_on))
@@ -60,14 +60,14 @@ derivative-returns-in_ok-all-in-Alt-clause-value t c = (
 pub derivative-returns-in_ok-after-in-Star-clause-value : goal.derivative-returns-in_ok-after-in-Star-clause-value
 derivative-returns-in_ok-after-in-Star-clause-value t c =
     let star = is-Star _ _ _ c.node.ensures _ c.in-Star.is in
-    subst (λ (a : Path). IfOk c.cat_of-in-Star.result (λ rest. Names c.cat_of-in-Star.new.self rest a))
+    subst (λ (a : Path). IfOk c.cat_of-in-Star.result (λ rest. IsFormAt c.cat_of-in-Star.new.self rest a))
     (ap₂ cat_of c.in_ok-after-in-Star.ensures.value.1 (kept c.in_ok-after-in-Star.ensures.grows c.args.form c.requires ∙ star)
     ∙ sym (ap (λ (a : Path). derivative_of a c.args.symbol) star ∙ derivative_of-Star _ _))
     c.cat_of-in-Star.ensures.value
 
 pub derivative-returns-in_ok-after-in-None-clause-value : goal.derivative-returns-in_ok-after-in-None-clause-value
 derivative-returns-in_ok-after-in-None-clause-value t c =
-    subst (λ (a : Path). IfOk c.not_of.result (λ rest. Names c.not_of.new.self rest a))
+    subst (λ (a : Path). IfOk c.not_of.result (λ rest. IsFormAt c.not_of.new.self rest a))
     (ap not_of c.in_ok-after-in-None.ensures.value.1
     ∙ sym (ap (λ (a : Path). derivative_of a c.args.symbol) (is-Not _ _ _ c.node.ensures _ c.in-Not.is) ∙ derivative_of-Not _ _
     ∙ ap (λ (o : Option ℕ). not_if (has_no_function o) (derivative_of (form_at c.args.self.now c.in-Not.inner) c.args.symbol)) c.in-None.is))
@@ -75,7 +75,7 @@ derivative-returns-in_ok-after-in-None-clause-value t c =
 
 pub derivative-returns-in-Some-clause-value : goal.derivative-returns-in-Some-clause-value
 derivative-returns-in-Some-clause-value t c =
-    subst (λ (a : Path). IfOk c.put-in-Some.result (λ rest. Names c.put-in-Some.new.self rest a))
+    subst (λ (a : Path). IfOk c.put-in-Some.result (λ rest. IsFormAt c.put-in-Some.new.self rest a))
     (sym (ap (λ (a : Path). derivative_of a c.args.symbol) (is-Not _ _ _ c.node.ensures _ c.in-Not.is) ∙ derivative_of-Not _ _
     ∙ ap (λ (o : Option ℕ). not_if (has_no_function o) (derivative_of (form_at c.args.self.now c.in-Not.inner) c.args.symbol)) c.in-Some.is))
     c.put-in-Some.ensures.value
@@ -91,10 +91,10 @@ derivatives-returns-clause-value t c =
     let all = c.requires.within in
     let first : Path = form_at c.args.self.now c.in-Alt.first in
     let others : List Path = flat_map members (map (λ a. derivative_of a c.args.symbol) (members (form_at c.args.self.now c.in-Alt.rest))) in
-    subst (λ (a : Path). IfOk c.all_added.result (λ rest. Names c.all_added.new.self rest a))
+    subst (λ (a : Path). IfOk c.all_added.result (λ rest. IsFormAt c.all_added.new.self rest a))
     (ap₂ (λ (a : Path) (l : List Path). alt_by (added_all (members a) l))
     (c.in_ok-after.ensures.value.1 ∙ ap (λ (a : Path). derivative_of a c.args.symbol) (kept c.in_ok-others.ensures.grows c.in-Alt.first (omega arith)))
     (named-members c.derivative.new.self c.in_ok-others.others _ (kept c.in_ok-after.ensures.grows c.in_ok-others.others c.in_ok-others.ensures.value.0 ∙ c.in_ok-others.ensures.value.1))
-    ∙ sym (ap (λ (l : List Path). alt_by (ascending (flat_map members (map (λ a. derivative_of a c.args.symbol) l)))) (members-at _ _ _ c.node.ensures _ _ c.in-Alt.is)
+    ∙ sym (ap (λ (l : List Path). alt_by (in_order_of (flat_map members (map (λ a. derivative_of a c.args.symbol) l)))) (members-at _ _ _ c.node.ensures _ _ c.in-Alt.is)
     ∙ ap alt_by (added_all-append (members (derivative_of first c.args.symbol)) others [])))
     c.all_added.ensures.value

@@ -2,13 +2,13 @@ use Rattle.std.proofs.Common.{◌≡◌, ◌⊎◌, inl, inr, ℕ, List, true, n
 use Rattle.merlin_model.specs.declared.policy.Path.{Path}
 use Rattle.path_regex.specs.Derivatives.{takes_empty}
 use Rattle.path_regex.proofs.Shapes.{takes_empty-Cat, takes_empty-Star, takes_empty-Not}
-use Rattle.path_automaton.specs.declared.forms.Node.{Node}
-use Rattle.path_automaton.specs.declared.forms.Node.TheVariants.{Empty as NodeEmpty, Star as NodeStar}
+use Rattle.path_automaton.specs.declared.forms.FormNode.{FormNode}
+use Rattle.path_automaton.specs.declared.forms.FormNode.TheVariants.{Empty as NodeEmpty, Star as NodeStar}
 use Rattle.path_automaton.specs.Shared.{form_at, meaning, IsNode}
 use Rattle.path_automaton.proofs.Joined.{is-Cat, is-Star, is-Not, takes-Alt}
 use Rattle.path_automaton.proofs.forms.Forms.+takes_empty.Goals as goal
 
-always : (forms : List Path) (k : ℕ) (n : Node) → IsNode forms k n → (n ≡ NodeEmpty) ⊎ ((a : ℕ) × (n ≡ NodeStar a)) → true ≡ takes_empty (form_at forms k)
+always : (forms : List Path) (k : ℕ) (n : FormNode) → IsNode forms k n → (n ≡ NodeEmpty) ⊎ ((a : ℕ) × (n ≡ NodeStar a)) → true ≡ takes_empty (form_at forms k)
 always forms k n h (inl e) = sym (ap takes_empty (h.1 ∙ ap (meaning forms) e))
 always forms k n h (inr e) = sym (ap takes_empty (is-Star forms k n h e.0 e.1) ∙ takes_empty-Star _)
 

@@ -1,0 +1,4 @@
+pub mod Boxes
+pub mod Growing
+pub mod Outcomes
+pub mod Descent

@@ -1,0 +1,3 @@
+pub mod Inclusion
+pub mod Trails
+pub mod Ways

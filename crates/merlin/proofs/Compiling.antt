@@ -1,0 +1,98 @@
+-- What is replied to a policy and a topology: a text stands for one policy or is refused, and not
+-- both.
+use Rattle.std.proofs.Common.{◌≡◌, ◌≢◌, ◌⊎◌, inl, inr, List, [], ◌∷◌, ℕ, Result, Ok, Err, refl, sym, ◌∙◌, ap, subst, unwrap_or}
+use Rattle.std.specs.Prelude.{Option, Some}
+use Rattle.merlin_base.specs.declared.status.Status.TheVariants as status
+use Rattle.merlin_model.specs.Networks.{Network}
+use Rattle.policy_expansion.specs.declared.policy.Policy.{Policy}
+use Rattle.policy_parser.specs.declared.fault.PolicyFault.{PolicyFault}
+use Rattle.policy_parser.specs.declared.fault.PolicyFault.TheVariants as faults
+use Rattle.policy_parser.specs.Policies.{IsPolicyText, IsRefused, AreOne}
+use Rattle.policy_parser.proofs.Once.{one_reading}
+use Rattle.topology.specs.Format.{IsTopology, IsTopologyOf}
+use Rattle.topology.specs.Faults.{Refuses as IsRefusedTopology}
+use Rattle.topology.specs.declared.fault.NetFault.{NetFault}
+use Rattle.topology.specs.declared.fault.NetFault.TheVariants as net_faults
+use Rattle.merlin.specs.Compiler.{IsSupported, IsSupportedText, IsUnsupportedText, IsRefusal, IsEarlyFault, IsWantOfMemory}
+use Rattle.merlin.specs.Compile.{CompileForm, Compiles, IsCompileReply, compile_status}
+use Rattle.merlin.specs.declared.compiler.EarlyFault.{EarlyFault}
+use Rattle.merlin.specs.declared.compiler.EarlyFault.TheVariants as early
+use Rattle.merlin.specs.declared.compile.CompileReply.{CompileReply}
+use Rattle.merlin.specs.declared.compile.CompileReply.TheVariants.{Refused, Least}
+
+Some-inj : {X : Type 0} {x y : X} → Some x ≡ Some y → x ≡ y
+Some-inj {x = x} e = ap (λ o. unwrap_or o x) e
+
+-- a fault of the text and a policy are no one reading
+not_one : (policy : Policy) (fault : PolicyFault) → fault ≢ faults.OutOfMemory
+    → AreOne (Ok policy) (Err fault) → ⊥
+not_one policy fault known (inl e) = cc
+not_one policy fault known (inr (inl e)) = let memory : fault ≡ faults.OutOfMemory = cc in known memory
+not_one policy fault known (inr (inr e)) = cc
+
+not_refused : (text : List ℕ) (policy : Policy) (fault : PolicyFault) → fault ≢ faults.OutOfMemory
+    → IsPolicyText text policy → IsRefused fault text → ⊥
+not_refused text policy fault known stands refused = not_one policy fault known (one_reading text (Ok policy) (Err fault) stands refused)
+
+same : (p q : Policy) → AreOne (Ok p) (Ok q) → p ≡ q
+same p q (inl e) = cc
+same p q (inr (inl e)) = cc
+same p q (inr (inr e)) = cc
+
+-- a text stands for one policy
+not_other : (text : List ℕ) → IsSupportedText text → IsUnsupportedText text → ⊥
+not_other text is other = other.other (sym (same is.raw other.raw (one_reading text (Ok is.raw) (Ok other.raw) is.stands other.stands)) ∙ is.supported)
+
+not_refused_net : (topology : List ℕ) (net : Network) (fault : NetFault)
+    → fault ≢ net_faults.OutOfMemory → IsTopology topology net → IsRefusedTopology fault topology
+    → ⊥
+not_refused_net topology net net_faults.Json known network none = none network.0 network.1
+not_refused_net topology net net_faults.Unbuilt known network none =
+    let one : network.0 ≡ none.0 = Some-inj (sym network.1.1 ∙ none.1.1) in
+    none.2 net (subst (λ d. IsTopologyOf d net) one network.2)
+not_refused_net topology net net_faults.OutOfMemory known network none = known refl
+
+is_want_policy : (fault : PolicyFault) → fault ≡ faults.OutOfMemory
+    → IsWantOfMemory (early.Policy fault)
+is_want_policy fault e = subst (λ f. IsWantOfMemory (early.Policy f)) (sym e) tt
+
+is_want_net : (fault : NetFault) → fault ≡ net_faults.OutOfMemory → IsWantOfMemory (early.Net fault)
+is_want_net fault e = subst (λ f. IsWantOfMemory (early.Net f)) (sym e) tt
+
+-- what is refused stands for nothing that is built
+pub IsRefusal-not : (fault : EarlyFault) (policy topology : List ℕ) (net : Network)
+    → IsSupportedText policy → IsTopology topology net → IsRefusal fault policy topology → ⊥
+IsRefusal-not (early.Policy fault) policy topology net is network (known, stops) = not_refused policy is.raw fault (λ e. known (is_want_policy fault e)) is.stands stops
+IsRefusal-not (early.Net fault) policy topology net is network (known, stops) = not_refused_net topology net fault (λ e. known (is_want_net fault e)) network stops.1
+IsRefusal-not early.Unbuilt policy topology net is network (known, stops) = not_other policy is stops
+IsRefusal-not early.OutOfMemory policy topology net is network (known, stops) = known tt
+
+pub Compiles-done : (form : CompileForm) (p t : List ℕ) (net : Network) → IsSupportedText p
+    → IsTopology t net → (r : CompileReply) → Compiles form p t r → compile_status r ≡ status.Done
+Compiles-done form p t net is network (Refused fault) h = absurd (IsRefusal-not fault p t net is network h)
+Compiles-done form p t net is network (Least compiled) h = refl
+
+pub Compiles-one : (form : CompileForm) (p t : List ℕ) (r s : CompileReply) → Compiles form p t r
+    → Compiles form p t s → compile_status s ≡ compile_status r
+Compiles-one form p t (Refused fault) (Refused other) h k = refl
+Compiles-one form p t (Refused fault) (Least compiled) h k =
+    absurd (IsRefusal-not fault p t compiled.net (record { raw = k.input.raw; stands = k.input.stands; supported = k.input.supported }) k.input.network h)
+Compiles-one form p t (Least compiled) s h k = Compiles-done form p t compiled.net (record { raw = h.input.raw; stands = h.input.stands; supported = h.input.supported }) h.input.network s k
+
+-- the same of what the files hold
+
+of_two : (P : List ℕ → List ℕ → Type 0) (contents : List (List ℕ)) (a b c d : List ℕ)
+    → contents ≡ a ∷ b ∷ [] → contents ≡ c ∷ d ∷ [] → P c d → P a b
+of_two P contents a b c d e e' h =
+    let first : c ≡ a = cc in
+    let second : d ≡ b = cc in
+    subst (λ x. P x b) first (subst (λ y. P c y) second h)
+
+pub IsCompileReply-one : (form : CompileForm) (contents : List (List ℕ)) (r s : CompileReply)
+    → IsCompileReply form contents r → IsCompileReply form contents s
+    → compile_status s ≡ compile_status r
+IsCompileReply-one form contents r s (p, t, e, h) (q, u, e', k) = Compiles-one form p t r s h (of_two (λ x y. Compiles form x y s) contents p t q u e e' k)
+
+pub IsCompileReply-compiles : (form : CompileForm) (p t : List ℕ) (r : CompileReply)
+    → IsCompileReply form (p ∷ t ∷ []) r → Compiles form p t r
+IsCompileReply-compiles form p t r (q, u, e, h) = of_two (λ x y. Compiles form x y r) (p ∷ t ∷ []) p t q u refl e h

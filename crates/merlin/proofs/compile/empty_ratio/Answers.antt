@@ -1,5 +1,0 @@
-use Rattle.merlin.proofs.Nothing.{ratio-some}
-use Rattle.merlin.proofs.compile.empty_ratio.Goals as goal
-
-pub returns-in-len1-up : goal.returns-in-len1-up
-returns-in-len1-up c = ratio-some c.args.net.now c.links.result.now (record { a = 0; aport = 0; b = 0; bport = 0; capacity = 0 }) c.links.ensures c.in-len1-up.len_at_least

@@ -1,0 +1,74 @@
+// The commands. A new one has a line in each of these functions.
+ghost use Rattle.std.specs.Prelude.{◌≡◌, length, IfOk, IfErr, IfSome, IfNone};
+ghost use Rattle.merlin.specs.Words.{word_texts};
+ghost use Rattle.merlin.specs.Reading.{AreContents, IsUnread, texts_read};
+ghost use Rattle.merlin.specs.Commands.{form_of, files_of, IsForm};
+ghost use Rattle.merlin.specs.Outcome.{IsNoForm, behaviour_by};
+ghost use Rattle.merlin.specs.Parts.{IsReplyReport};
+
+use crate::compile::{Compile, compile_of, compile_report, files_to_compile};
+use crate::reading::{Unread, read_files};
+use crate::refute::{Refute, files_to_refute, refute_of, refute_report};
+use crate::report::Report;
+use merlin_base::{Files, OutOfMemory};
+use packet_model::Packet;
+use std::alloc::Global;
+use topology::FnDecl;
+
+/// A command, as its words ask for it.
+#[derive(Clone, Copy)]
+pub enum Command<'a> {
+    Compile(Compile<'a>),
+    Refute(Refute<'a>),
+}
+
+/// The command that the words are, if they are one.
+pub fn command_of(words: &[String]) -> Option<Command<'_>>
+    ensures some { IfSome result (λ command. IsForm (word_texts words.now) (form_of command)) }
+    ensures none { IfNone result (IsNoForm (word_texts words.now)) }
+{
+    if let Some(command) = compile_of(words) {
+        return Some(Command::Compile(command));
+    }
+    if let Some(command) = refute_of(words) {
+        return Some(Command::Refute(command));
+    }
+    None
+}
+
+/// What the files of a command hold.
+pub fn contents_for<F: Files>(
+    alloc: Global,
+    files: &mut F,
+    command: Command,
+) -> Result<Vec<Vec<u8>>, Unread>
+    ensures ok { let named = files_of (form_of command.entry) in
+        IfOk result (λ contents.
+        AreContents (F.contents files.old) named (texts_read contents.items)) }
+    ensures err { let named = files_of (form_of command.entry) in
+        IfErr result (IsUnread (F.contents files.old) named
+        (F.faults files.old) (F.faults files.new)) }
+{
+    match command {
+        Command::Compile(words) => read_files(alloc, files, &files_to_compile(words)),
+        Command::Refute(words) => read_files(alloc, files, &files_to_refute(words)),
+    }
+}
+
+/// What is reported of the contents of a command's files. Packet functions do what `apply` does.
+pub fn report_over<A: Fn(&FnDecl, Packet) -> Packet + Drop>(
+    alloc: Global,
+    command: Command,
+    contents: &[Vec<u8>],
+    apply: A,
+) -> Result<Report, OutOfMemory>
+    requires callable { A.IsAlwaysCallable apply }
+    requires read { length contents.now ≡ length (files_of (form_of command)) }
+    ensures { let behaviour = behaviour_by (A.post apply) (λ d. d.now) in
+        IfOk result (IsReplyReport behaviour (form_of command.entry) (texts_read contents.now)) }
+{
+    match command {
+        Command::Compile(words) => compile_report(alloc, words, &contents[0], &contents[1]),
+        Command::Refute(_) => refute_report(alloc, &contents[0], &contents[1]),
+    }
+}

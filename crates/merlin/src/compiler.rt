@@ -1,0 +1,157 @@
+// From the bytes of a policy and a topology to a result.
+ghost use Rattle.std.specs.Prelude.{◌≡◌, [], ℕ, List, IfOk, IfErr, OnOk, IsTrue, ◌↔◌};
+ghost use Rattle.config_text.specs.Lines.{IsConfigOver};
+ghost use Rattle.merlin_model.specs.Assignments.{value_of};
+ghost use Rattle.rules_model.specs.Plain.{any_path_policy};
+ghost use Rattle.merlin.specs.Compiler.{every_way, IsSupported, IsSupportedText};
+ghost use Rattle.merlin.specs.Compiler.{IsCompiledFrom, IsEarlyFault, IsWantOfMemory};
+ghost use Rattle.merlin.specs.declared.compiler.EarlyFault.TheVariants as early;
+
+use config_text::Config;
+use merlin_base::OutOfMemory as NoMemory;
+use merlin_model::policy::{Objective, Value};
+use plain_compile::configuration_of;
+use policy_parser::{Policy, PolicyFault, RawPath, parse};
+use std::alloc::Global;
+use topology::{NetFault, Topology, read};
+
+/// A network and what its policy compiles to.
+#[derive(Drop)]
+pub struct Compiled {
+    pub net: Topology,
+    pub objective: Objective,
+    pub value: Value,
+    pub config: Config,
+}
+
+/// Why nothing is compiled. `Unbuilt`: the policy asks for what is not built yet.
+#[derive(Drop)]
+pub enum EarlyFault {
+    Policy(PolicyFault),
+    Net(NetFault),
+    Unbuilt,
+    OutOfMemory,
+}
+
+impl EarlyFault {
+    /// Whether memory ran out, which is no refusal.
+    pub fn is_want_of_memory(&self) -> bool
+        ensures { IsTrue result ↔ IsWantOfMemory self.now }
+    {
+        matches!(
+            self,
+            EarlyFault::OutOfMemory
+                | EarlyFault::Policy(PolicyFault::OutOfMemory)
+                | EarlyFault::Net(NetFault::OutOfMemory)
+        )
+    }
+}
+
+impl From<PolicyFault> for EarlyFault {
+    ghost from_gives = { λ fault gives. gives ≡ early.Policy fault };
+
+    fn from(fault: PolicyFault) -> Self {
+        EarlyFault::Policy(fault)
+    }
+}
+
+impl From<NetFault> for EarlyFault {
+    ghost from_gives = { λ fault gives. gives ≡ early.Net fault };
+
+    fn from(fault: NetFault) -> Self {
+        EarlyFault::Net(fault)
+    }
+}
+
+impl From<NoMemory> for EarlyFault {
+    ghost from_gives = { λ _ gives. gives ≡ early.OutOfMemory };
+
+    fn from(_: NoMemory) -> Self {
+        EarlyFault::OutOfMemory
+    }
+}
+
+// Whether a path is `.*`.
+fn is_every_way(path: &RawPath) -> bool
+    ensures { IsTrue result ↔ (path.now ≡ every_way) }
+{
+    match path {
+        RawPath::Star(inner) => matches!(inner.get(), RawPath::Dot),
+        _ => false,
+    }
+}
+
+// Whether the policy is one that is built.
+fn is_supported(policy: &Policy) -> bool
+    ensures { IsTrue result ↔ IsSupported policy.now }
+{
+    let is_every_way = match &policy.default_path {
+        Some(path) => is_every_way(path),
+        None => false,
+    };
+    is_every_way && policy.statements.is_empty() && policy.formula.terms.is_empty()
+}
+
+// Reads a policy that is built.
+fn read_supported(alloc: Global, text: &[u8]) -> Result<(), EarlyFault>
+    ensures ok { OnOk result (IsSupportedText text.now) }
+    ensures err { IfErr result (λ fault.
+        (topology : List ℕ) → IsEarlyFault fault text.now topology) }
+{
+    let policy = parse(alloc, text)?;
+    if is_supported(&policy) {
+        Ok(())
+    } else {
+        Err(EarlyFault::Unbuilt)
+    }
+}
+
+// No load of the capacity of the first link, or of 1 without links.
+fn empty_ratio(net: &Topology) -> Value
+    ensures { result ≡ value_of net.now any_path_policy [] Objective.Ratio [] }
+{
+    let capacity = match net.links() {
+        [first, ..] => first.capacity,
+        [] => 1,
+    };
+    Value::Ratio { load: 0, capacity }
+}
+
+// The value where nothing is reserved.
+fn empty_value(net: &Topology, objective: Objective) -> Value
+    ensures { result ≡ value_of net.now any_path_policy [] objective [] }
+{
+    match objective {
+        Objective::Shortest => Value::Whole(0),
+        Objective::Ratio => empty_ratio(net),
+        Objective::Reserved => Value::Whole(0),
+    }
+}
+
+/// What the policy compiles to over the topology, for an objective.
+///
+/// # Errors
+/// The first of: what `parse` says of the policy; `Unbuilt` where it has a statement, a term, no
+/// default or one that does not allow every way; what `read` says of the topology.
+pub fn compile_policy(
+    alloc: Global,
+    policy: &[u8],
+    topology: &[u8],
+    objective: Objective,
+) -> Result<Compiled, EarlyFault>
+    ensures ok { IfOk result (IsCompiledFrom policy.now topology.now objective) }
+    ensures err { IfErr result (λ fault. IsEarlyFault fault policy.now topology.now) }
+    ensures over { IfOk result (λ compiled. IsConfigOver compiled.net compiled.config) }
+{
+    rules_model::laws::plain_reserves_nothing();
+    read_supported(alloc, policy)?;
+    let net = read(alloc, topology)?;
+    let value = empty_value(&net, objective);
+    let config = configuration_of(alloc, &net)?;
+    Ok(Compiled {
+        net,
+        objective,
+        value,
+        config,
+    })
+}

@@ -1,0 +1,42 @@
+//! Which replies the contents of files have. Each law is the contract of a function that does
+//! nothing.
+
+ghost use Rattle.std.specs.Prelude.{◌≡◌, ◌∷◌, [], ℕ, List};
+ghost use Rattle.merlin_base.specs.declared.status.Status.TheVariants as status;
+ghost use Rattle.merlin_model.specs.Networks.{Network};
+ghost use Rattle.merlin_model.specs.Programs.{Program};
+ghost use Rattle.merlin_model.specs.Trees.{Refutes, root_box};
+ghost use Rattle.merlin_model.specs.declared.certificate.Tree.{Tree};
+ghost use Rattle.topology.specs.Format.{IsTopology};
+ghost use Rattle.merlin.specs.declared.compile.CompileReply.{CompileReply};
+ghost use Rattle.merlin.specs.declared.refute.RefuteReply.{RefuteReply};
+ghost use Rattle.merlin.specs.declared.refute.RefuteReply.TheVariants as refute;
+ghost use Rattle.merlin.specs.Compile.{CompileForm, IsCompileReply, compile_status};
+ghost use Rattle.merlin.specs.Compiler.{IsSupportedText};
+ghost use Rattle.merlin.specs.Refute.{IsProgram, IsTree, IsRefuteReply, refute_status};
+
+/// A policy that is built and a topology that stands for a network are done. In any case two replies
+/// to the same files have one status.
+pub fn compile_replies()
+    ensures done { (form : CompileForm) (policy topology : List ℕ) (net : Network)
+        (reply : CompileReply) →
+        IsSupportedText policy → IsTopology topology net →
+        IsCompileReply form (policy ∷ topology ∷ []) reply → compile_status reply ≡ status.Done }
+    ensures one { (form : CompileForm) (contents : List (List ℕ)) (reply other : CompileReply) →
+        IsCompileReply form contents reply → IsCompileReply form contents other →
+        compile_status other ≡ compile_status reply }
+{}
+
+/// A tree that refutes the program has the reply `Refuted`, and one that does not has CheckNo. In any
+/// case two replies to the same files have one status.
+pub fn refute_replies()
+    ensures refuted { (p t : List ℕ) (program : Program) (tree : Tree) (reply : RefuteReply) →
+        IsProgram p program → IsTree t tree → Refutes program tree (root_box program) →
+        IsRefuteReply (p ∷ t ∷ []) reply → reply ≡ refute.Refuted }
+    ensures short { (p t : List ℕ) (program : Program) (tree : Tree) (reply : RefuteReply) →
+        IsProgram p program → IsTree t tree → ¬ Refutes program tree (root_box program) →
+        IsRefuteReply (p ∷ t ∷ []) reply → refute_status reply ≡ status.CheckNo }
+    ensures one { (contents : List (List ℕ)) (reply other : RefuteReply) →
+        IsRefuteReply contents reply → IsRefuteReply contents other →
+        refute_status other ≡ refute_status reply }
+{}

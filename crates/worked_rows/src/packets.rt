@@ -1,0 +1,98 @@
+//! Packets: their texts, what sets one field, and whether one is proper between two hosts.
+
+use crate::store::{Store, content};
+use crate::texts::{answer_of, parted, text_of, verdict};
+use merlin_base::OutOfMemory;
+use packet_model::{Field, HostAddress, Packet, PacketFault, parse_packet, print_packet, proper};
+use std::alloc::Global;
+use topology::{Topology, read};
+
+/// The packet of a text, and None where it is none.
+pub fn packet_from(text: &str) -> Option<Packet> {
+    parse_packet(text.as_bytes()).ok()
+}
+
+/// `packet|PACKET`: the packet as it is printed, or where its text is wrong.
+pub fn reading(alloc: Global, text: &str) -> Result<String, OutOfMemory> {
+    match parse_packet(text.as_bytes()) {
+        Ok(packet) => answer_of(alloc, 0, text_of(print_packet(alloc, &packet)?.bytes())),
+        Err(PacketFault::BadPacket { at }) => Ok(format!(in alloc; "1\npacket at {at}\n")?),
+    }
+}
+
+fn field_from(word: &str) -> Option<Field> {
+    match word {
+        "eth.src" => Some(Field::EthSrc),
+        "eth.dst" => Some(Field::EthDst),
+        "ip.src" => Some(Field::IpSrc),
+        "ip.dst" => Some(Field::IpDst),
+        "ip.proto" => Some(Field::Proto),
+        "sport" => Some(Field::Sport),
+        "dport" => Some(Field::Dport),
+        _ => None,
+    }
+}
+
+// The packet with a field set, where the value is one that the field can have.
+fn changed(packet: &Packet, field: Field, value: u64) -> Option<Packet> {
+    match field {
+        Field::EthSrc | Field::EthDst if value < 1 << 48 => Some(packet.with(field, value)),
+        Field::IpSrc | Field::IpDst if value < 1 << 32 => Some(packet.with(field, value)),
+        Field::Proto if value < 1 << 8 => Some(packet.with(field, value)),
+        Field::Sport | Field::Dport if value < 1 << 16 => Some(packet.with(field, value)),
+        _ => None,
+    }
+}
+
+// The packet of some words with a field of it set, and the field.
+fn set_of(words: &str) -> Option<(Packet, Field)> {
+    let (text, setting) = parted(words);
+    let (word, value) = setting.split_once('=')?;
+    let field = field_from(word)?;
+    let value = value.parse::<u64>().ok()?;
+    let packet = changed(&packet_from(text)?, field, value)?;
+    Some((packet, field))
+}
+
+/// `set|PACKET|FIELD=VALUE`: the packet with this field, and the value that it has then.
+pub fn setting(alloc: Global, words: &str) -> Result<String, OutOfMemory> {
+    let Some((packet, field)) = set_of(words) else {
+        return answer_of(alloc, 1, "nothing is set");
+    };
+    let value = packet.value(field);
+    let name = print_packet(alloc, &packet)?;
+    let text = text_of(name.bytes());
+    Ok(format!(in alloc; "0\n{text}\n{value}\n")?)
+}
+
+/// The addresses of the host of this name.
+fn address_of(net: &Topology, name: &str) -> Option<HostAddress> {
+    let loc = net.find(name.as_bytes())?;
+    if loc < net.locations() {
+        net.host(loc)
+    } else {
+        None
+    }
+}
+
+// Whether a packet is proper between the hosts of these names.
+fn is_proper(net: &Topology, text: &str, names: &str) -> Option<bool> {
+    let (from, to) = parted(names);
+    let packet = packet_from(text)?;
+    let (from, to) = (address_of(net, from)?, address_of(net, to)?);
+    Some(proper(&packet, from, to))
+}
+
+/// `proper|TOPOLOGY|PACKET|HOST|HOST`: whether the packet is one from the first host to the second.
+pub fn properness(alloc: Global, words: &str, store: &Store) -> Result<String, OutOfMemory> {
+    let (file, words) = parted(words);
+    let (text, names) = parted(words);
+    let is_proper = match read(alloc, content(store, file)) {
+        Ok(net) => is_proper(&net, text, names),
+        Err(_) => None,
+    };
+    match is_proper {
+        Some(is_proper) => answer_of(alloc, 0, verdict(is_proper)),
+        None => answer_of(alloc, 1, "no packet and hosts"),
+    }
+}

@@ -4,39 +4,18 @@ use Rattle.std.proofs.Math.Nat.{div-div-eq-div-mul}
 use Rattle.std.specs.List.{AllByRecursion, join_with_byte}
 use Rattle.std.specs.Fmt.{decimal, digit_glyph}
 use Rattle.std.specs.Int.{bytes_high_first, byte_at}
-use Rattle.std.proofs.lemmas.List.Elements.{All-nil, All-cons, All-head, All-tail, All-append, All-weaker}
-use Rattle.std.proofs.lemmas.Str.Parse.{IsNumeralModel, numerals_by_weight}
-use Rattle.std.proofs.lemmas.Fmt.{digits_decimal, digits_value-decimal, decimal_nonempty, decimal_digit, first_decimal, length-decimal-le}
+use Rattle.std.proofs.lemmas.List.Elements.{All-nil, All-cons, All-append, All-weaker}
 use Rattle.merlin_model.specs.Packets.{Packet, IsPacket}
-use Rattle.merlin_base.specs.Lexemes.{IsDigit, AreDigits, number_of, IsDecimal, IsHexDigit, IsHexPair, IsOctet, Lacks, AreJoined, of_octets, IsMac, IsIp}
+use Rattle.merlin_base.specs.Lexemes.{IsDigit, IsHexDigit, IsHexPair, IsOctet, Lacks, AreJoined, of_octets, IsMac, IsIp}
 use Rattle.merlin_base.specs.Addresses.{hex_pair, mac_text, ip_text}
+use Rattle.merlin_base.proofs.Decimals.{is_decimal}
 use Rattle.packet_model.specs.Texts.{all_fields, AreValueTexts, IsPacketText, parts_of, packet_text}
 use Rattle.packet_model.proofs.Parts.{parts_of-join}
 
 -- Decimal numbers.
 
-numerals : IsNumeralModel AreDigits number_of
-numerals =
-    numerals_by_weight AreDigits
-    (record { empty = All-nil IsDigit; parts = λ c cs h. (All-head IsDigit c cs h, All-tail IsDigit c cs h); more = λ c cs h k. All-cons IsDigit c cs h k })
-    number_of
-    (record { empty = refl; more = λ c cs h. refl })
-
-first_digit : (n : ℕ) → n < 2 ^ 64 → get_or (decimal n) 0 0 ≡ 48 → length (decimal n) ≡ 1
-first_digit zero h e = ap length (decimal_digit 0 (lit< tt))
-first_digit (suc n) h e = absurd (omega (arith, first_decimal (suc n) (omega arith) h))
-
-pub decimal_text : (n : ℕ) → n < 10 ^ 19 → IsDecimal (decimal n) n
-decimal_text n h = let small : n < 2 ^ 64 = omega arith in record {
-  digits = digits_decimal numerals n small;
-  some = decimal_nonempty n small;
-  short = length-decimal-le 19 n (lit< tt) h small;
-  plain = first_digit n small;
-  value = sym (digits_value-decimal numerals n small);
-}
-
 decimal_lacks : (n byte : ℕ) → n < 10 ^ 19 → byte < 48 → Lacks byte (decimal n)
-decimal_lacks n byte h low = All-weaker IsDigit (λ c. c ≢ byte) (λ c is e. omega arith) (decimal n) (decimal_text n h).digits
+decimal_lacks n byte h low = All-weaker IsDigit (λ c. c ≢ byte) (λ c is e. omega arith) (decimal n) (is_decimal n h).digits
 
 -- Octets, joined by a byte.
 
@@ -106,7 +85,7 @@ mac_lacks n = joined_lacks 44 58 (map hex_pair (bytes_high_first 6 n)) (λ e. om
 -- IPv4 addresses.
 
 octet_text : (n : ℕ) → n < 256 → IsOctet (decimal n) n
-octet_text n h = (decimal_text n (omega arith), omega arith)
+octet_text n h = (is_decimal n (omega arith), omega arith)
 
 four_octets : (n : ℕ) → n < 2 ^ 32 → n ≡ of_octets (bytes_high_first 4 n)
 four_octets n h =
@@ -139,7 +118,7 @@ packet_reads_back p is =
             ip_reads_back p.ip_src is.ip_src,
             (
               ip_reads_back p.ip_dst is.ip_dst,
-              ((decimal_text p.proto (omega arith), is.proto), ((decimal_text p.sport (omega arith), is.sport), ((decimal_text p.dport (omega arith), is.dport), tt))),
+              ((is_decimal p.proto (omega arith), is.proto), ((is_decimal p.sport (omega arith), is.sport), ((is_decimal p.dport (omega arith), is.dport), tt))),
             ),
           ),
         ),

@@ -3,7 +3,7 @@
 use crate::store::{Store, content};
 use crate::texts::{answer_of, parted, text_of, verdict};
 use merlin_base::OutOfMemory;
-use packet_model::{Field, HostAddress, Packet, PacketFault, parse_packet, print_packet, proper};
+use packet_model::{Field, HostAddress, Packet, PacketFault, parse_packet, print_packet};
 use std::alloc::Global;
 use topology::{Topology, read};
 
@@ -80,7 +80,7 @@ fn is_proper(net: &Topology, text: &str, names: &str) -> Option<bool> {
     let (from, to) = parted(names);
     let packet = packet_from(text)?;
     let (from, to) = (address_of(net, from)?, address_of(net, to)?);
-    Some(proper(&packet, from, to))
+    Some(packet_model::is_proper(&packet, from, to))
 }
 
 /// `proper|TOPOLOGY|PACKET|HOST|HOST`: whether the packet is one from the first host to the second.

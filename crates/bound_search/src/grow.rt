@@ -1,4 +1,4 @@
-//! The tree over one box at one cutoff.
+//! The tree over one box at one cutoff, grown depth-first: the half where the variable is 0 comes before the one where it is 1.
 
 ghost use Rattle.std.specs.Prelude.{ℕ, ◌≡◌, ◌<◌, length, Option, Bool, IfOk, IsTrue, List};
 ghost use Rattle.std.specs.Option.{option_copied};

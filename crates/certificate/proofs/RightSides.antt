@@ -8,7 +8,7 @@ use Rattle.merlin_model.specs.Trees.{row_of, weighted_right}
 use Rattle.merlin_model.specs.declared.certificate.Weight.{Weight}
 use Rattle.integer_program.specs.Bounds.{IsBounded}
 use Rattle.integer_program.proofs.Bounds.{within, within-add, within-more, total-more}
-use Rattle.certificate.proofs.RowSteps.{within-mul}
+use Rattle.certificate.proofs.RowSteps.{product_of}
 use Rattle.certificate.proofs.Totals.{no_weight}
 
 pub record IsRight (program : Program) (weights : List Weight) (k : ℕ) (right : ℤ) : Type 0 where
@@ -21,25 +21,9 @@ pub record IsTerm (weight right amount : ℤ) : Type 0 where
 
 pub is-term : (weight right a b amount : ℤ) → IsBounded (2 ^ 60) weight → nat_abs right ≤ 2 ^ 45 → a ≡ weight → b ≡ right →
     amount ≡ to_z w128 (of_z w128 (to_z w128 (of_z w128 a) *ℤ to_z w128 (of_z w128 b))) → IsTerm weight right amount
-is-term weight right a b amount w r e f h = record { is = is; small = subst (IsBounded (2 ^ 105)) (sym is) (within-more (2 ^ 60 * 2 ^ 45) (2 ^ 105) _ (lit≤ tt) bound) }
-  where
-    size : IsBounded (2 ^ 45) right
-    size = within (2 ^ 45) right r
-
-    bound : IsBounded (2 ^ 60 * 2 ^ 45) (weight *ℤ right)
-    bound = within-mul (2 ^ 60) (2 ^ 45) weight right w size
-
-    left_is : to_z w128 (of_z w128 a) ≡ weight
-    left_is = omega (arith, ints)
-
-    right_is : to_z w128 (of_z w128 b) ≡ right
-    right_is = omega (arith, ints)
-
-    whole : (product : ℤ) → IsBounded (2 ^ 60 * 2 ^ 45) product → to_z w128 (of_z w128 product) ≡ product
-    whole product p = omega (arith, ints)
-
-    is : amount ≡ weight *ℤ right
-    is = h ∙ ap (λ z. to_z w128 (of_z w128 (z *ℤ to_z w128 (of_z w128 b)))) left_is ∙ ap (λ z. to_z w128 (of_z w128 (weight *ℤ z))) right_is ∙ whole (weight *ℤ right) bound
+is-term weight right a b amount w r e f h =
+    let p = product_of (2 ^ 45) weight right a b amount (lit≤ tt) w r e f h in
+    record { is = p.0; small = within-more (2 ^ 60 * 2 ^ 45) (2 ^ 105) _ (lit≤ tt) p.1 }
 
 pub right_more : (program : Program) (weights : List Weight) (k : ℕ) (before after amount : ℤ) → k < length weights → IsRight program weights k before →
     IsTerm (get_or weights k no_weight).weight (row_of program (get_or weights k no_weight)).right amount → after ≡ before +ℤ amount → IsRight program weights (k + 1) after

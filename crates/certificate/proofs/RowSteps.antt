@@ -94,6 +94,26 @@ pub row_whole : (program : Program) (box : List (Option Bool)) (row : ℕ) (entr
 row_whole program box row entries weight start sums k is whole e v =
     is.each v ∙ ap (λ es. sum_at start v +ℤ (weight *ℤ coefficient_in v es)) (take_all k entries whole ∙ e)
 
+-- the code's product of two numbers, of which the one is within 2^60 and the other within a bound
+pub product_of : (most : ℕ) (a b x y amount : ℤ) → most ≤ 2 ^ 45 → IsBounded (2 ^ 60) a → nat_abs b ≤ most → x ≡ a → y ≡ b →
+    amount ≡ to_z w128 (of_z w128 (to_z w128 (of_z w128 x) *ℤ to_z w128 (of_z w128 y))) → (amount ≡ a *ℤ b) × IsBounded (2 ^ 60 * most) amount
+product_of most a b x y amount m w r e f h = (is, subst (IsBounded (2 ^ 60 * most)) (sym is) bound)
+  where
+    bound : IsBounded (2 ^ 60 * most) (a *ℤ b)
+    bound = within-mul (2 ^ 60) most a b w (within most b r)
+
+    x_is : to_z w128 (of_z w128 x) ≡ a
+    x_is = omega (arith, ints)
+
+    y_is : to_z w128 (of_z w128 y) ≡ b
+    y_is = omega (arith, ints)
+
+    whole : (product : ℤ) → IsBounded (2 ^ 60 * most) product → to_z w128 (of_z w128 product) ≡ product
+    whole product p = omega (arith, ints)
+
+    is : amount ≡ a *ℤ b
+    is = h ∙ ap (λ z. to_z w128 (of_z w128 (z *ℤ to_z w128 (of_z w128 y)))) x_is ∙ ap (λ z. to_z w128 (of_z w128 (a *ℤ z))) y_is ∙ whole (a *ℤ b) bound
+
 -- the code's product of a weight and a coefficient
 pub record IsProduct (weight coefficient amount : ℤ) : Type 0 where
   pub is : amount ≡ weight *ℤ coefficient
@@ -101,22 +121,7 @@ pub record IsProduct (weight coefficient amount : ℤ) : Type 0 where
 
 pub is-product : (weight coefficient left right amount : ℤ) → IsBounded (2 ^ 60) weight → nat_abs coefficient ≤ 10 ^ 9 → left ≡ weight → right ≡ to_z w64 (of_z w64 coefficient) →
     amount ≡ to_z w128 (of_z w128 (to_z w128 (of_z w128 left) *ℤ to_z w128 (of_z w128 right))) → IsProduct weight coefficient amount
-is-product weight coefficient left right amount w c e f a = record { is = is; small = subst (IsBounded (2 ^ 90)) (sym is) (within-more (2 ^ 60 * 10 ^ 9) (2 ^ 90) _ (lit≤ tt) bound) }
-  where
-    size : IsBounded (10 ^ 9) coefficient
-    size = within (10 ^ 9) coefficient c
-
-    bound : IsBounded (2 ^ 60 * 10 ^ 9) (weight *ℤ coefficient)
-    bound = within-mul (2 ^ 60) (10 ^ 9) weight coefficient w size
-
-    left_is : to_z w128 (of_z w128 left) ≡ weight
-    left_is = omega (arith, ints)
-
-    right_is : to_z w128 (of_z w128 right) ≡ coefficient
-    right_is = omega (arith, ints)
-
-    whole : (product : ℤ) → IsBounded (2 ^ 60 * 10 ^ 9) product → to_z w128 (of_z w128 product) ≡ product
-    whole product b = omega (arith, ints)
-
-    is : amount ≡ weight *ℤ coefficient
-    is = a ∙ ap (λ z. to_z w128 (of_z w128 (z *ℤ to_z w128 (of_z w128 right)))) left_is ∙ ap (λ z. to_z w128 (of_z w128 (weight *ℤ z))) right_is ∙ whole (weight *ℤ coefficient) bound
+is-product weight coefficient left right amount w c e f a =
+    let same : to_z w64 (of_z w64 coefficient) ≡ coefficient = omega (arith, ints) in
+    let p = product_of (10 ^ 9) weight coefficient left right amount (lit≤ tt) w c e (f ∙ same) a in
+    record { is = p.0; small = within-more (2 ^ 60 * 10 ^ 9) (2 ^ 90) _ (lit≤ tt) p.1 }

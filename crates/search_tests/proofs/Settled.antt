@@ -1,8 +1,8 @@
 -- A box of two items without an open variable.
 use Rattle.std.proofs.Common.{◌≡◌, ℕ, zero, suc, ◌<◌, ◌+◌, Bool, true, false, ℤ, pos, negsuc, ◌+ℤ◌, ◌*ℤ◌, ◌≤ℤ◌, ◌<ℤ◌, List, [], ◌∷◌, length, Option, None, Some, refl, sym, ◌∙◌, ap, arith}
 use Rattle.std.proofs.lemmas.Int.{ints}
-use Rattle.merlin_model.specs.Programs.{coefficient_if, is_chosen, IsSolution}
-use Rattle.merlin_model.specs.Trees.{fixed_at, least_addition, least_value, weighted_coefficient, RefutesBox, IsBox}
+use Rattle.merlin_model.specs.Programs.{Program, coefficient_if, is_chosen, IsSolution}
+use Rattle.merlin_model.specs.Trees.{fixed_at, least_addition, least_value, weighted_coefficient, weighted_right, row_of, IsPositiveOnBounds, RefutesBox, IsBox}
 use Rattle.merlin_model.specs.declared.certificate.Weight.{Weight}
 use Rattle.search_tests.specs.declared.items.Wanted.{Wanted}
 use Rattle.search_tests.specs.declared.items.Wanted.TheVariants.{One, Both, Three}
@@ -30,15 +30,21 @@ closed_value wanted cutoff box weights closed =
 alone : (n k : ℕ) → k + 1 < 1 → ⊥
 alone n k h = omega arith
 
+positive : (is_equality : Bool) → IsPositiveOnBounds is_equality (pos 1)
+positive true = λ e. cc
+positive false = omega (arith, ints)
+
+-- a row with the weight 1 refutes the box where its right side is less than the least value
+one_row : (program : Program) (row : ℕ) (box : List (Option Bool)) → row < length program.rows → weighted_right program (record { row = row; weight = pos 1 } ∷ []) <ℤ least_value program box (record { row = row; weight = pos 1 } ∷ []) →
+    RefutesBox program box (record { row = row; weight = pos 1 } ∷ [])
+one_row program row box lt exceeds =
+    record { ascend = λ k h. absurd (alone 0 k h); exist = (lt, tt); small = (omega arith, tt); signs = (positive (row_of program (record { row = row; weight = pos 1 })).is_equality, tt); exceeds = exceeds }
+
 pub few_refutes : (wanted : Wanted) (cutoff : Option ℕ) (box : List (Option Bool)) → IsClosed (items_at wanted cutoff) box → are_few wanted (is_one (fixed_at box 0)) (is_one (fixed_at box 1)) ≡ true →
     RefutesBox (items_at wanted cutoff) box (record { row = 0; weight = pos 1 } ∷ [])
-few_refutes wanted cutoff box closed few = record {
-  ascend = λ k h. absurd (alone 0 k h);
-  exist = (omega arith, tt);
-  small = (omega arith, tt);
-  signs = (omega (arith, ints), tt);
-  exceeds = let value = closed_value wanted cutoff box (record { row = 0; weight = pos 1 } ∷ []) closed in let less = by wanted (is_one (fixed_at box 0)) (is_one (fixed_at box 1)) few in omega (arith, ints);
-}
+few_refutes wanted cutoff box closed few =
+    let value = closed_value wanted cutoff box (record { row = 0; weight = pos 1 } ∷ []) closed in let less = by wanted (is_one (fixed_at box 0)) (is_one (fixed_at box 1)) few in
+    one_row (items_at wanted cutoff) 0 box (omega arith) (omega (arith, ints))
   where
     by : (wanted : Wanted) (x y : Bool) → are_few wanted x y ≡ true → ((pos 1 *ℤ least_taken wanted) +ℤ pos 0) <ℤ (coefficient_if x (negsuc 0) +ℤ (coefficient_if y (negsuc 0) +ℤ pos 0))
     by One true y e = absurd (false-true e)
@@ -55,13 +61,9 @@ few_refutes wanted cutoff box closed few = record {
 
 pub dear_refutes : (wanted : Wanted) (cutoff : Option ℕ) (box : List (Option Bool)) → IsClosed (items_at wanted cutoff) box → most_spent cutoff <ℤ spent (is_one (fixed_at box 0)) (is_one (fixed_at box 1)) →
     RefutesBox (items_at wanted cutoff) box (record { row = 1; weight = pos 1 } ∷ [])
-dear_refutes wanted cutoff box closed dear = record {
-  ascend = λ k h. absurd (alone 0 k h);
-  exist = (omega arith, tt);
-  small = (omega arith, tt);
-  signs = (omega (arith, ints), tt);
-  exceeds = let value = closed_value wanted cutoff box (record { row = 1; weight = pos 1 } ∷ []) closed in let less = by (is_one (fixed_at box 0)) (is_one (fixed_at box 1)) dear in omega (arith, ints);
-}
+dear_refutes wanted cutoff box closed dear =
+    let value = closed_value wanted cutoff box (record { row = 1; weight = pos 1 } ∷ []) closed in let less = by (is_one (fixed_at box 0)) (is_one (fixed_at box 1)) dear in
+    one_row (items_at wanted cutoff) 1 box (omega arith) (omega (arith, ints))
   where
     by : (x y : Bool) → most_spent cutoff <ℤ spent x y → ((pos 1 *ℤ most_spent cutoff) +ℤ pos 0) <ℤ (coefficient_if x (pos 2) +ℤ (coefficient_if y (pos 1) +ℤ pos 0))
     by true true e = omega (arith, ints)

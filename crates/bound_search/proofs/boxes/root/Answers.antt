@@ -26,16 +26,12 @@ loop-variable-preserved g c =
 
 pub returns-clause-boxes : goal.returns-clause-boxes
 returns-clause-boxes g c =
-    let same = variables-same _ _ _ _ _ (option_copied c.args.cutoff) (g.met.P.Program.cutoffs c.args.program.now) c.requires in
-    let size : c.loop-variable.variable ≡ variables (g.P.Program.instance c.args.program.now (option_copied c.args.cutoff)) =
-    let e = c.variables-variables.ensures in let h = c.loop-variable-test.false in let k = c.loop-variable.auto.variable-end in omega arith in
-    let all : c.variables-variables.result ≡ variables (g.P.Program.instance c.args.program.now (option_copied c.args.cutoff)) = let e = c.variables-variables.ensures in omega arith in
-    (made_boxes (g.P.Program.instance c.args.program.now (option_copied c.args.cutoff)) _ _ c.loop-variable.variable size (c.in_ok-plain.ensures ∙ ap (λ n. replicate n None) all) c.loop-variable.invariant).1
+    let same = variables-same _ _ _ _ _ (option_copied c.args.cutoff) (g.met.P.Program.cutoffs c.args.program.now) c.requires in let e = c.variables-variables.ensures in let h = c.loop-variable-test.false in let k = c.loop-variable.auto.variable-end in
+    let all : c.variables-variables.result ≡ variables (g.P.Program.instance c.args.program.now (option_copied c.args.cutoff)) = omega arith in
+    (made_boxes (g.P.Program.instance c.args.program.now (option_copied c.args.cutoff)) _ _ c.loop-variable.variable (omega arith) (c.in_ok-plain.ensures ∙ ap (λ n. replicate n None) all) c.loop-variable.invariant).1
 
 pub returns-clause-free : goal.returns-clause-free
 returns-clause-free g c =
-    let same = variables-same _ _ _ _ _ (option_copied c.args.cutoff) (g.met.P.Program.cutoffs c.args.program.now) c.requires in
-    let size : c.loop-variable.variable ≡ variables (g.P.Program.instance c.args.program.now (option_copied c.args.cutoff)) =
-    let e = c.variables-variables.ensures in let h = c.loop-variable-test.false in let k = c.loop-variable.auto.variable-end in omega arith in
-    let all : c.variables-variables.result ≡ variables (g.P.Program.instance c.args.program.now (option_copied c.args.cutoff)) = let e = c.variables-variables.ensures in omega arith in
-    (made_boxes (g.P.Program.instance c.args.program.now (option_copied c.args.cutoff)) _ _ c.loop-variable.variable size (c.in_ok-plain.ensures ∙ ap (λ n. replicate n None) all) c.loop-variable.invariant).0
+    let same = variables-same _ _ _ _ _ (option_copied c.args.cutoff) (g.met.P.Program.cutoffs c.args.program.now) c.requires in let e = c.variables-variables.ensures in let h = c.loop-variable-test.false in let k = c.loop-variable.auto.variable-end in
+    let all : c.variables-variables.result ≡ variables (g.P.Program.instance c.args.program.now (option_copied c.args.cutoff)) = omega arith in
+    (made_boxes (g.P.Program.instance c.args.program.now (option_copied c.args.cutoff)) _ _ c.loop-variable.variable (omega arith) (c.in_ok-plain.ensures ∙ ap (λ n. replicate n None) all) c.loop-variable.invariant).0

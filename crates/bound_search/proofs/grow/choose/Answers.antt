@@ -13,14 +13,10 @@ returns-clause-is_open g c =
 
 pub returns-clause-plain : goal.returns-clause-plain
 returns-clause-plain g c =
-    let o = returns-clause-is_open g c in
-    let e = o.exists in
-    let s = c.requires.boxes.box.size in
+    let o = returns-clause-is_open g c in let e = o.exists in let s = c.requires.boxes.box.size in
     omega arith
 
 pub returns-clause-shut : goal.returns-clause-shut
 returns-clause-shut g c =
-    let o = returns-clause-is_open g c in
-    let e = o.exists in
-    let s = c.requires.boxes.shut.size in
+    let o = returns-clause-is_open g c in let e = o.exists in let s = c.requires.boxes.shut.size in
     omega arith

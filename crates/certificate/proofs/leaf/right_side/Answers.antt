@@ -22,22 +22,18 @@ pub overflow_add-right : goal.overflow_add-right
 overflow_add-right g c =
     let at = is-at _ _ _ _ _ (option_copied c.args.cutoff) (g.met.P.Program.cutoffs c.args.program.now) (g.met.P.Program.is_program c.args.program.now) c.requires.takes in
     let w = weight_at _ _ c.args.weights.now c.loop-w.w-index at c.requires.weights c.loop-w-test.true in
-    let form = row_form _ _ _ at w.exists in
     let weight : c.from.result ≡ (get_or c.args.weights.now c.loop-w.w-index no_weight).weight = let e = c.from.ensures in let l = w.small.low in let h = w.small.high in omega (arith, ints) in
-    let right : c.from-in-loop-w.result ≡ c.right.result = let e = c.from-in-loop-w.ensures in omega (arith, ints) in
-    let term = is-term (get_or c.args.weights.now c.loop-w.w-index no_weight).weight _ c.from.result c.from-in-loop-w.result _ w.small form.small_right weight (right ∙ c.right.ensures) refl in
-    let few = w.few in let k = c.loop-w-test.true in
+    let right : c.from-in-loop-w.result ≡ c.right.result = let e = c.from-in-loop-w.ensures in omega (arith, ints) in let few = w.few in let k = c.loop-w-test.true in
+    let term = is-term (get_or c.args.weights.now c.loop-w.w-index no_weight).weight _ c.from.result c.from-in-loop-w.result _ w.small (row_form _ _ _ at w.exists).small_right weight (right ∙ c.right.ensures) refl in
     term_fits c.loop-w.w-index (to_z w128 c.loop-w.right-bits) _ (omega arith) c.loop-w.invariant.small term.small
 
 pub loop-w-preserved : goal.loop-w-preserved
 loop-w-preserved g c =
     let at = is-at _ _ _ _ _ (option_copied c.args.cutoff) (g.met.P.Program.cutoffs c.args.program.now) (g.met.P.Program.is_program c.args.program.now) c.requires.takes in
     let w = weight_at _ _ c.args.weights.now c.loop-w.w-index at c.requires.weights c.loop-w-test.true in
-    let form = row_form _ _ _ at w.exists in
     let weight : c.from.result ≡ (get_or c.args.weights.now c.loop-w.w-index no_weight).weight = let e = c.from.ensures in let l = w.small.low in let h = w.small.high in omega (arith, ints) in
-    let right : c.from-in-loop-w.result ≡ c.right.result = let e = c.from-in-loop-w.ensures in omega (arith, ints) in
-    let term = is-term (get_or c.args.weights.now c.loop-w.w-index no_weight).weight _ c.from.result c.from-in-loop-w.result _ w.small form.small_right weight (right ∙ c.right.ensures) refl in
-    let few = w.few in let k = c.loop-w-test.true in
+    let right : c.from-in-loop-w.result ≡ c.right.result = let e = c.from-in-loop-w.ensures in omega (arith, ints) in let few = w.few in let k = c.loop-w-test.true in
+    let term = is-term (get_or c.args.weights.now c.loop-w.w-index no_weight).weight _ c.from.result c.from-in-loop-w.result _ w.small (row_form _ _ _ at w.exists).small_right weight (right ∙ c.right.ensures) refl in
     right_more _ c.args.weights.now c.loop-w.w-index (to_z w128 c.loop-w.right-bits) _ _ c.loop-w-test.true c.loop-w.invariant term (term_sum c.loop-w.w-index (to_z w128 c.loop-w.right-bits) _ (omega arith) c.loop-w.invariant.small term.small)
 
 pub returns : goal.returns

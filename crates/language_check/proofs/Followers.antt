@@ -6,6 +6,7 @@ use Rattle.merlin_model.specs.Networks.{Network, IsHost}
 use Rattle.merlin_model.specs.Words.{at, MayFollow}
 use Rattle.merlin_model.proofs.Members.{In, in_from, in_to, in_append, in_append-left, in_append-right}
 use Rattle.language_check.specs.Ways.{AreAscending, IsFollower, IsRowAt}
+use Rattle.language_check.proofs.Searching.{below_or_at}
 
 some-same : {X : Type 0} {a b : X} → Some a ≡ Some b → a ≡ b
 some-same e = cc
@@ -34,13 +35,6 @@ module _ (net : Network) (symbols : List Symbol) (loc : ℕ) where
     wider : AllByRecursion (λ k. k < n + 1) row
     wider = all-map (λ k. k < n) (λ k. k < n + 1) (λ k lt. omega (arith, lt)) row r.below
 
-    up-to : (j : ℕ) → j < n + 1 → (j < n) ⊎ (j ≡ n)
-    up-to j lt = by (nat_lt j n) refl
-      where
-        by : (b : Bool) → nat_lt j n ≡ b → (j < n) ⊎ (j ≡ n)
-        by true e = inl (grind arith)
-        by false e = let ge : n ≤ j = grind arith in inr (omega arith)
-
     pub row-with : IsFollower net symbols loc n → IsRowAt net symbols loc (n + 1) (row ++ n ∷ [])
     row-with f = record {
       each = λ j. (λ h. there j (in_append row (n ∷ []) j (in_from (row ++ n ∷ []) j h)), λ h. back j h.0 h.1);
@@ -54,7 +48,7 @@ module _ (net : Network) (symbols : List Symbol) (loc : ℕ) where
         there j (inr (inr i)) = absurd i
 
         back : (j : ℕ) → j < n + 1 → IsFollower net symbols loc j → Contains (row ++ n ∷ []) j
-        back j lt g = on (up-to j lt)
+        back j lt g = on (below_or_at n j lt)
           where
             on : (j < n) ⊎ (j ≡ n) → Contains (row ++ n ∷ []) j
             on (inl l) = in_to (row ++ n ∷ []) j (in_append-left row (n ∷ []) j (in_from row j ((r.each j).1 (l, g))))
@@ -68,7 +62,7 @@ module _ (net : Network) (symbols : List Symbol) (loc : ℕ) where
     }
       where
         back : (j : ℕ) → j < n + 1 → IsFollower net symbols loc j → Contains row j
-        back j lt g = on (up-to j lt)
+        back j lt g = on (below_or_at n j lt)
           where
             on : (j < n) ⊎ (j ≡ n) → Contains row j
             on (inl l) = (r.each j).1 (l, g)

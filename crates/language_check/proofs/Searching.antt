@@ -65,15 +65,24 @@ one-way found from i (x ∷ z ∷ u) (y ∷ r ∷ v) h g =
 
 -- The first place.
 
+pub below_or_at : (n j : ℕ) → j < n + 1 → (j < n) ⊎ (j ≡ n)
+below_or_at n j lt = by (nat_lt j n) refl
+  where
+    by : (b : Bool) → nat_lt j n ≡ b → (j < n) ⊎ (j ≡ n)
+    by true e = inl (grind arith)
+    by false e = let ge : n ≤ j = grind arith in inr (omega arith)
+
 pub begin : (g : Grounds) (n : ℕ) (t : Triple) → t ≡ triple_at g (g.start ∷ []) → IsInside g n t → IsSearching g n (t ∷ []) (0 ∷ []) 0 []
 begin g n t is inside = record {
   trails = (g.start ∷ []) ∷ [];
-  long = refl;
-  back = record { long = refl; earlier = λ i above below. absurd (omega (arith, above, below)) };
-  inside = (inside, tt);
-  begins = refl;
-  each = each;
-  ordered = λ i j u v lt ei ej. let below = get-below ((g.start ∷ []) ∷ []) j v ej in absurd (omega (arith, lt, below));
+  lead = record {
+    long = refl;
+    back = record { long = refl; earlier = λ i above below. absurd (omega (arith, above, below)) };
+    inside = (inside, tt);
+    begins = refl;
+    each = each;
+    ordered = λ i j u v lt ei ej. let below = get-below ((g.start ∷ []) ∷ []) j v ej in absurd (omega (arith, lt, below));
+  };
   recent = recent;
   closed = λ i h u k e c. absurd (never i k c);
   harmless = λ i u lt e. absurd (omega (arith, lt));
@@ -105,7 +114,7 @@ module _ (g : Grounds) (n : ℕ) (found : List Triple) (from : List ℕ) (turn :
       by (x ∷ v) (inr f) = on f.2
         where
           on : (f.0 < turn) ⊎ ((f.0 ≡ turn) × Contains done x) → IsLessTrail v (h ∷ w) ⊎ ((v ≡ h ∷ w) × (x < k))
-          on (inl lt) = inl (s.ordered f.0 turn v (h ∷ w) lt f.1 here)
+          on (inl lt) = inl (s.lead.ordered f.0 turn v (h ∷ w) lt f.1 here)
           on (inr c) = inr (some-same (sym f.1 ∙ ap (slice_get s.trails) c.0 ∙ here), all_in (λ d. d < k) done x above (in_from done x c.1))
 
   found-more : (k : ℕ) (trails more : List (List ℕ)) → trails ≡ s.trails ++ more → (u : List ℕ) → IsFoundFrom s.trails turn done u → IsFoundFrom trails turn (done ++ k ∷ []) u
@@ -127,12 +136,7 @@ module _ (g : Grounds) (n : ℕ) (found : List Triple) (from : List ℕ) (turn :
   pub step-old : (k j : ℕ) → AllByRecursion (λ d. d < k) done → slice_get found j ≡ Some (triple_at g (k ∷ h ∷ w)) → IsSearching g n found from turn (done ++ k ∷ [])
   step-old k j above at = record {
     trails = s.trails;
-    long = s.long;
-    back = s.back;
-    inside = s.inside;
-    begins = s.begins;
-    each = s.each;
-    ordered = s.ordered;
+    lead = s.lead;
     recent = λ i u e. recent-more k s.trails [] (sym (append-none s.trails)) u (s.recent i u e);
     closed = closed;
     harmless = s.harmless;
@@ -145,9 +149,9 @@ module _ (g : Grounds) (n : ℕ) (found : List Triple) (from : List ℕ) (turn :
       there : Follows s.trails k (h ∷ w)
       there =
           let below = get-below found j (triple_at g (k ∷ h ∷ w)) at in
-          let long = s.long in
+          let long = s.lead.long in
           let v = below-get s.trails j (omega arith) in
-          let each = s.each j v.0 v.1 in
+          let each = s.lead.each j v.0 v.1 in
           (j, v.0, v.1, some-same (sym each.1 ∙ at), inr (newer k above j v.0 v.1))
 
       closed : (i : ℕ) (m : ℕ) (u : List ℕ) (x : ℕ) → slice_get s.trails i ≡ Some (m ∷ u) → ((i < turn) × Contains (g.followers m) x) ⊎ ((i ≡ turn) × Contains (done ++ k ∷ []) x) → Follows s.trails x (m ∷ u)
@@ -163,12 +167,14 @@ module _ (g : Grounds) (n : ℕ) (found : List Triple) (from : List ℕ) (turn :
       IsSearching g n (found ++ t ∷ []) (from ++ turn ∷ []) turn (done ++ k ∷ [])
   step-new k t above follows is inside = record {
     trails = trails;
-    long = length-append s.trails (new ∷ []) ∙ ap (λ m. m + 1) s.long ∙ sym (length-append found (t ∷ []));
-    back = record { long = length-append from (turn ∷ []) ∙ ap (λ m. m + 1) s.back.long ∙ sym (length-append found (t ∷ [])); earlier = earlier };
-    inside = all-snoc (IsInside g n) found t s.inside inside;
-    begins = get-more s.trails (new ∷ []) 0 (g.start ∷ []) s.begins;
-    each = λ i u e. each i u (get-snoc s.trails new i u e);
-    ordered = λ i j u v lt ei ej. ordered i j u v lt ei (get-snoc s.trails new j v ej);
+    lead = record {
+      long = length-append s.trails (new ∷ []) ∙ ap (λ m. m + 1) s.lead.long ∙ sym (length-append found (t ∷ []));
+      back = record { long = length-append from (turn ∷ []) ∙ ap (λ m. m + 1) s.lead.back.long ∙ sym (length-append found (t ∷ [])); earlier = earlier };
+      inside = all-snoc (IsInside g n) found t s.lead.inside inside;
+      begins = get-more s.trails (new ∷ []) 0 (g.start ∷ []) s.lead.begins;
+      each = λ i u e. each i u (get-snoc s.trails new i u e);
+      ordered = λ i j u v lt ei ej. ordered i j u v lt ei (get-snoc s.trails new j v ej);
+    };
     recent = λ i u e. recent i u (get-snoc s.trails new i u e);
     closed = λ i m u x e c. closed i m u x (get-snoc s.trails new i (m ∷ u) e) c;
     harmless = λ i u lt e. harmless i u lt (get-snoc s.trails new i u e);
@@ -187,39 +193,39 @@ module _ (g : Grounds) (n : ℕ) (found : List Triple) (from : List ℕ) (turn :
       earlier i above below = by (nat_lt i (length from)) refl
         where
           by : (b : Bool) → nat_lt i (length from) ≡ b → slice_index_or (from ++ turn ∷ []) i 0 < i
-          by true e = let lt : i < length from = grind arith in subst (λ p. p < i) (sym (front from turn i lt)) (s.back.earlier i above lt)
+          by true e = let lt : i < length from = grind arith in subst (λ p. p < i) (sym (front from turn i lt)) (s.lead.back.earlier i above lt)
           by false e =
               let more = length-append from (turn ∷ []) in
               let ge : length from ≤ i = grind arith in
               let same : i ≡ length from = omega arith in
-              let lt = turn-below in let l1 = s.long in let l2 = s.back.long in
+              let lt = turn-below in let l1 = s.lead.long in let l2 = s.lead.back.long in
               let less : turn < i = omega arith in
               subst (λ p. p < i) (sym (ap (λ m. slice_index_or (from ++ turn ∷ []) m 0) same ∙ last from turn)) less
 
       each : (i : ℕ) (u : List ℕ) → (slice_get s.trails i ≡ Some u) ⊎ ((i ≡ length s.trails) × (new ≡ u)) →
           IsTrail g u × (slice_get (found ++ t ∷ []) i ≡ Some (triple_at g u)) × IsWayBack (found ++ t ∷ []) (from ++ turn ∷ []) i u
-      each i u (inl e) = let old = s.each i u e in (old.0, get-more found (t ∷ []) i (triple_at g u) old.1, way-more found from t turn i u s.back.long old.2)
+      each i u (inl e) = let old = s.lead.each i u e in (old.0, get-more found (t ∷ []) i (triple_at g u) old.1, way-more found from t turn i u s.lead.back.long old.2)
       each i u (inr e) =
           subst (λ v. IsTrail g v × (slice_get (found ++ t ∷ []) i ≡ Some (triple_at g v)) × IsWayBack (found ++ t ∷ []) (from ++ turn ∷ []) i v) e.1
-          ((follows, old.0), place ∙ ap Some is, (above_zero, (t, place, ap (λ x. x.symbol) is), subst (λ p. IsWayBack (found ++ t ∷ []) (from ++ turn ∷ []) p (h ∷ w)) (sym back) (way-more found from t turn turn (h ∷ w) s.back.long old.2)))
+          ((follows, old.0), place ∙ ap Some is, (above_zero, (t, place, ap (λ x. x.symbol) is), subst (λ p. IsWayBack (found ++ t ∷ []) (from ++ turn ∷ []) p (h ∷ w)) (sym back) (way-more found from t turn turn (h ∷ w) s.lead.back.long old.2)))
         where
           old : IsTrail g (h ∷ w) × (slice_get found turn ≡ Some (triple_at g (h ∷ w))) × IsWayBack found from turn (h ∷ w)
-          old = s.each turn (h ∷ w) here
+          old = s.lead.each turn (h ∷ w) here
 
           place : slice_get (found ++ t ∷ []) i ≡ Some t
-          place = ap (slice_get (found ++ t ∷ [])) (e.0 ∙ s.long) ∙ get-end found t
+          place = ap (slice_get (found ++ t ∷ [])) (e.0 ∙ s.lead.long) ∙ get-end found t
 
           above_zero : 0 < i
           above_zero = let lt = turn-below in let same : i ≡ length s.trails = e.0 in omega arith
 
           back : slice_index_or (from ++ turn ∷ []) i 0 ≡ turn
-          back = ap (λ m. slice_index_or (from ++ turn ∷ []) m 0) (e.0 ∙ s.long ∙ sym s.back.long) ∙ last from turn
+          back = ap (λ m. slice_index_or (from ++ turn ∷ []) m 0) (e.0 ∙ s.lead.long ∙ sym s.lead.back.long) ∙ last from turn
 
       ordered : (i j : ℕ) (u v : List ℕ) → i < j → slice_get trails i ≡ Some u → (slice_get s.trails j ≡ Some v) ⊎ ((j ≡ length s.trails) × (new ≡ v)) → IsLessTrail u v
       ordered i j u v lt ei cj = by (get-snoc s.trails new i u ei) cj
         where
           by : (slice_get s.trails i ≡ Some u) ⊎ ((i ≡ length s.trails) × (new ≡ u)) → (slice_get s.trails j ≡ Some v) ⊎ ((j ≡ length s.trails) × (new ≡ v)) → IsLessTrail u v
-          by (inl a) (inl b) = s.ordered i j u v lt a b
+          by (inl a) (inl b) = s.lead.ordered i j u v lt a b
           by (inl a) (inr b) = subst (IsLessTrail u) b.1 (newer k above i u a)
           by (inr a) (inl b) = let below = get-below s.trails j v b in let same : i ≡ length s.trails = a.0 in absurd (omega (arith, below, same, lt))
           by (inr a) (inr b) = let si : i ≡ length s.trails = a.0 in let sj : j ≡ length s.trails = b.0 in absurd (omega (arith, si, sj, lt))
@@ -252,24 +258,12 @@ module _ (g : Grounds) (n : ℕ) (found : List Triple) (from : List ℕ) (turn :
   pub next-turn : done ≡ g.followers h → (¬ Strays g (triple_at g (h ∷ w))) → IsSearching g n found from (turn + 1) []
   next-turn whole safe = record {
     trails = s.trails;
-    long = s.long;
-    back = s.back;
-    inside = s.inside;
-    begins = s.begins;
-    each = s.each;
-    ordered = s.ordered;
+    lead = s.lead;
     recent = λ i u e. recent u (s.recent i u e);
     closed = closed;
     harmless = harmless;
   }
     where
-      earlier-turn : (i : ℕ) → i < turn + 1 → (i < turn) ⊎ (i ≡ turn)
-      earlier-turn i lt = by (nat_lt i turn) refl
-        where
-          by : (b : Bool) → nat_lt i turn ≡ b → (i < turn) ⊎ (i ≡ turn)
-          by true e = inl (grind arith)
-          by false e = let ge : turn ≤ i = grind arith in inr (omega arith)
-
       recent : (u : List ℕ) → (u ≡ g.start ∷ []) ⊎ IsFoundFrom s.trails turn done u → (u ≡ g.start ∷ []) ⊎ IsFoundFrom s.trails (turn + 1) [] u
       recent u (inl e) = inl e
       recent [] (inr f) = absurd f
@@ -280,7 +274,7 @@ module _ (g : Grounds) (n : ℕ) (found : List Triple) (from : List ℕ) (turn :
           on (inr c) = let at : f.0 ≡ turn = c.0 in omega arith
 
       closed : (i : ℕ) (m : ℕ) (u : List ℕ) (x : ℕ) → slice_get s.trails i ≡ Some (m ∷ u) → ((i < turn + 1) × Contains (g.followers m) x) ⊎ ((i ≡ turn + 1) × Contains [] x) → Follows s.trails x (m ∷ u)
-      closed i m u x e (inl c) = on (earlier-turn i c.0)
+      closed i m u x e (inl c) = on (below_or_at turn i c.0)
         where
           on : (i < turn) ⊎ (i ≡ turn) → Follows s.trails x (m ∷ u)
           on (inl lt) = s.closed i m u x e (inl (lt, c.1))
@@ -293,7 +287,7 @@ module _ (g : Grounds) (n : ℕ) (found : List Triple) (from : List ℕ) (turn :
       closed i m u x e (inr c) = absurd (none-in x c.1)
 
       harmless : (i : ℕ) (u : List ℕ) → i < turn + 1 → slice_get s.trails i ≡ Some u → ¬ Strays g (triple_at g u)
-      harmless i u lt e = on (earlier-turn i lt)
+      harmless i u lt e = on (below_or_at turn i lt)
         where
           on : (i < turn) ⊎ (i ≡ turn) → ¬ Strays g (triple_at g u)
           on (inl l) = s.harmless i u l e
@@ -315,20 +309,20 @@ module _ (g : Grounds) (n : ℕ) (found : List Triple) (from : List ℕ) (turn :
       (w.0, w.1, by (nat_lt turn i) refl w.0 w.1)
     where
       by : (b : Bool) → nat_lt turn i ≡ b → (w : List ℕ) → slice_get s.trails turn ≡ Some w → IsNoMoreTrail w v
-      by true f w e2 = let lt : turn < i = grind arith in inr (s.ordered turn i w v lt e2 e)
+      by true f w e2 = let lt : turn < i = grind arith in inr (s.lead.ordered turn i w v lt e2 e)
       by false f w e2 = let ge : i ≤ turn = grind arith in let same : turn ≡ i = omega arith in inl (some-same (sym e2 ∙ ap (slice_get s.trails) same ∙ e))
 
   -- each trail is met among what was found, or is not less than the one at the turn
   complete : (u : List ℕ) → IsTrail g u → IsMet u ⊎ IsLater u
   complete [] h = absurd h
-  complete (k ∷ []) h = inl (0, g.start ∷ [], s.begins, ap (λ x. triple_at g (x ∷ [])) (sym h), inl (ap (λ x. x ∷ []) (sym h)))
+  complete (k ∷ []) h = inl (0, g.start ∷ [], s.lead.begins, ap (λ x. triple_at g (x ∷ [])) (sym h), inl (ap (λ x. x ∷ []) (sym h)))
   complete (k ∷ j ∷ rest) h = by (complete (j ∷ rest) h.1)
     where
       later : (v : List ℕ) → IsNoMoreTrail v (j ∷ rest) → IsLater v → IsLater (k ∷ j ∷ rest)
       later v le l = (l.0, l.1, no_more-longer k l.0 (j ∷ rest) (no_more-trans l.0 v (j ∷ rest) l.2 le))
 
       met : (i : ℕ) (v : List ℕ) → slice_get s.trails i ≡ Some v → triple_at g v ≡ triple_at g (j ∷ rest) → IsNoMoreTrail v (j ∷ rest) → i < turn → IsMet (k ∷ j ∷ rest)
-      met i [] e same le lt = absurd (s.each i [] e).0
+      met i [] e same le lt = absurd (s.lead.each i [] e).0
       met i (m ∷ v) e same le lt =
           let head : m ≡ j = ap (λ t. t.symbol) same in
           let next = s.closed i m v k e (inl (lt, subst (λ y. Contains (g.followers y) k) (sym head) h.0)) in
@@ -346,7 +340,7 @@ module _ (g : Grounds) (n : ℕ) (found : List Triple) (from : List ℕ) (turn :
 
   -- the trail at the turn is the least that strays
   pub least : (w : List ℕ) → slice_get s.trails turn ≡ Some w → Strays g (triple_at g w) → IsLeastTrail g (Some w)
-  least w here strays = ((s.each turn w here).0, strays, λ u trail bad. by u bad (complete u trail))
+  least w here strays = ((s.lead.each turn w here).0, strays, λ u trail bad. by u bad (complete u trail))
     where
       by : (u : List ℕ) → Strays g (triple_at g u) → IsMet u ⊎ IsLater u → IsNoMoreTrail w u
       by u bad (inr l) = subst (λ v. IsNoMoreTrail v u) (some-same (sym l.1 ∙ here)) l.2
@@ -366,9 +360,9 @@ module _ (g : Grounds) (n : ℕ) (found : List Triple) (from : List ℕ) (turn :
       by : IsMet u ⊎ IsLater u → ⊥
       by (inl m) =
           let below = get-below s.trails m.0 m.1 m.2 in
-          let long = s.long in
+          let long = s.lead.long in
           s.harmless m.0 m.1 (omega arith) m.2 (subst (Strays g) (sym m.3) bad)
-      by (inr l) = let below = get-below s.trails turn l.0 l.1 in let long = s.long in omega (arith, below, long, all)
+      by (inr l) = let below = get-below s.trails turn l.0 l.1 in let long = s.lead.long in omega (arith, below, long, all)
 
 -- The steps of the code.
 
@@ -376,9 +370,9 @@ pub head-at : (g : Grounds) (n : ℕ) (found : List Triple) (from : List ℕ) (t
     (w : List ℕ) × (slice_get s.trails turn ≡ Some (t.symbol ∷ w)) × (t ≡ triple_at g (t.symbol ∷ w))
 head-at g n found from turn done s t e =
     let below = get-below found turn t e in
-    let long = s.long in
+    let long = s.lead.long in
     let u = below-get s.trails turn (omega arith) in
-    by u.0 u.1 (s.each turn u.0 u.1)
+    by u.0 u.1 (s.lead.each turn u.0 u.1)
   where
     by : (u : List ℕ) → slice_get s.trails turn ≡ Some u → IsTrail g u × (slice_get found turn ≡ Some (triple_at g u)) × IsWayBack found from turn u →
         (w : List ℕ) × (slice_get s.trails turn ≡ Some (t.symbol ∷ w)) × (t ≡ triple_at g (t.symbol ∷ w))
@@ -428,7 +422,7 @@ pub least-at : (g : Grounds) (n : ℕ) (found : List Triple) (from : List ℕ) (
 least-at g n found from turn s t e strays =
     let here = head-at g n found from turn [] s t e in
     let w = t.symbol ∷ here.0 in
-    (w, (s.each turn w here.1).2, least g n found from turn s w here.1 (subst (Strays g) here.2 strays))
+    (w, (s.lead.each turn w here.1).2, least g n found from turn s w here.1 (subst (Strays g) here.2 strays))
 
 pub way-step : (found : List Triple) (from : List ℕ) (turn i k : ℕ) (trail : List ℕ) → 0 < i → (t : Triple) → slice_get found i ≡ Some t → k ≡ t.symbol →
     ((u : List ℕ) → IsWayBack found from turn u → (rest : List ℕ) × IsWayBack found from i rest × (u ≡ trail ++ rest)) →

@@ -71,15 +71,19 @@ IsFoundFrom trails turn done [] = ⊥
 IsFoundFrom trails turn done (k ∷ u) =
     (p : ℕ) × (slice_get trails p ≡ Some u) × ((p < turn) ⊎ ((p ≡ turn) × Contains done k))
 
--- What is known while the places in turn are followed, the one at the turn by these numbers.
-pub record IsSearching (g : Grounds) (n : ℕ) (found : List Triple) (from : List ℕ) (turn : ℕ) (done : List ℕ) : Type 0 where
-  pub trails : List (List ℕ)
+-- These trails lead to the triples that were found, in order, from the start on.
+pub record LeadToFound (g : Grounds) (n : ℕ) (found : List Triple) (from : List ℕ) (trails : List (List ℕ)) : Type 0 where
   pub long : length trails ≡ length found
   pub back : AreFromEarlier found from
   pub inside : AllByRecursion (IsInside g n) found
   pub begins : slice_get trails 0 ≡ Some (g.start ∷ [])
   pub each : (i : ℕ) (u : List ℕ) → slice_get trails i ≡ Some u → IsTrail g u × (slice_get found i ≡ Some (triple_at g u)) × IsWayBack found from i u
   pub ordered : (i j : ℕ) (u v : List ℕ) → i < j → slice_get trails i ≡ Some u → slice_get trails j ≡ Some v → IsLessTrail u v
+
+-- What is known while the places in turn are followed, the one at the turn by these numbers.
+pub record IsSearching (g : Grounds) (n : ℕ) (found : List Triple) (from : List ℕ) (turn : ℕ) (done : List ℕ) : Type 0 where
+  pub trails : List (List ℕ)
+  pub lead : LeadToFound g n found from trails
   pub recent : (i : ℕ) (u : List ℕ) → slice_get trails i ≡ Some u → (u ≡ g.start ∷ []) ⊎ IsFoundFrom trails turn done u
   pub closed : (i : ℕ) (h : ℕ) (u : List ℕ) (k : ℕ) → slice_get trails i ≡ Some (h ∷ u) → ((i < turn) × Contains (g.followers h) k) ⊎ ((i ≡ turn) × Contains done k) →
       (j : ℕ) × (v : List ℕ) × (slice_get trails j ≡ Some v) × (triple_at g v ≡ triple_at g (k ∷ h ∷ u)) × IsNoMoreTrail v (k ∷ h ∷ u)

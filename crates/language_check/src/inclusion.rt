@@ -24,7 +24,8 @@ fn word_of(
 ) -> Result<Items<Symbol>, OutOfMemory>
     requires inside { AllByRecursion (λ k. k < length symbols.now) trail }
     requires end { end < length symbols.now }
-    ensures { IfOk result (λ word. word ≡ forwards symbols.now trail (symbol_at symbols.now end ∷ [])) }
+    ensures { IfOk result (λ word.
+        word ≡ forwards symbols.now trail (symbol_at symbols.now end ∷ [])) }
 {
     let mut word = Items::new(alloc);
     while let Some(number) = trail.pop() {
@@ -38,7 +39,7 @@ fn word_of(
 /// second; else the least walk that is not: of those with the fewest symbols the first one by the
 /// numbers of its symbols, position by position. The automata go by the numbers of the symbols in
 /// the list, which has each symbol of the network once.
-pub fn included(
+pub fn least_stray_walk(
     alloc: Global,
     a: &Automaton,
     b: &Automaton,

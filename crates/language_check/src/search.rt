@@ -6,7 +6,7 @@ ghost use Rattle.std.specs.Prelude.{◌≡◌, ◌<◌, ◌+◌, ◌↔◌, ℕ,
 ghost use Rattle.std.specs.Prelude.{IfOk, OnOk, IsTrue};
 ghost use Rattle.language_check.specs.Trails.{Strays, IsLeastTrail, IsWayBack, AreFromEarlier};
 ghost use Rattle.language_check.specs.Trails.{IsInside, IsNoted};
-ghost use Rattle.language_check.specs.Ways.{grounds_of, IsSearchingIn, AreWhole, IsOverSymbols};
+ghost use Rattle.language_check.specs.Ways.{grounds_of, IsSearchingIn, AreWellFormed, IsOverSymbols};
 
 use crate::ways::Ways;
 use indexmap::IndexSet;
@@ -63,7 +63,7 @@ fn way_back(
 
 /// Whether the last host may follow, and the first automaton then accepts and the second does not.
 fn strays(ways: &Ways, a: &Automaton, b: &Automaton, triple: Triple) -> bool
-    requires whole { AreWhole ways.now }
+    requires whole { AreWellFormed ways.now }
     requires first { IsOverSymbols (length ways.now.places) a.now }
     requires second { IsOverSymbols (length ways.now.places) b.now }
     requires inside { IsInside (grounds_of ways.now a.now b.now) (length ways.now.places) triple }
@@ -84,13 +84,14 @@ fn spread(
     a: &Automaton,
     b: &Automaton,
 ) -> Result<(), OutOfMemory>
-    requires whole { AreWhole ways.now }
+    requires whole { AreWellFormed ways.now }
     requires first { IsOverSymbols (length ways.now.places) a.now }
     requires second { IsOverSymbols (length ways.now.places) b.now }
     requires before { IsSearchingIn ways.now a.now b.now found.old.keys from.old turn [] }
     requires at { slice_get found.old.keys turn ≡ Some triple }
     requires harmless { ¬ Strays (grounds_of ways.now a.now b.now) triple }
-    ensures { OnOk result (IsSearchingIn ways.now a.now b.now found.new.keys from.new (turn + 1) []) }
+    ensures { OnOk result
+        (IsSearchingIn ways.now a.now b.now found.new.keys from.new (turn + 1) []) }
 {
     let row = ways.followers(triple.symbol);
     for symbol in row {
@@ -111,7 +112,7 @@ pub fn search(
     a: &Automaton,
     b: &Automaton,
 ) -> Result<Option<Items<usize>>, OutOfMemory>
-    requires whole { AreWhole ways.now }
+    requires whole { AreWellFormed ways.now }
     requires first { IsOverSymbols (length ways.now.places) a.now }
     requires second { IsOverSymbols (length ways.now.places) b.now }
     ensures { IfOk result (IsLeastTrail (grounds_of ways.now a.now b.now)) }

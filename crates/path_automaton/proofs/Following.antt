@@ -5,7 +5,7 @@ use Rattle.std.proofs.Math.Seq.{take-suc}
 use Rattle.std.proofs.lemmas.Bool.{eqb-true}
 use Rattle.merlin_model.specs.declared.policy.Symbol.{Symbol}
 use Rattle.merlin_model.specs.declared.policy.Path.{Path, Nothing}
-use Rattle.merlin_model.proofs.Members.{In, in_to}
+use Rattle.merlin_model.proofs.Members.{In, in_to, all_both}
 use Rattle.path_regex.specs.Derivatives.{derivative_of}
 use Rattle.path_regex.specs.States.{rest_after}
 use Rattle.path_automaton.specs.declared.exploring.TheConstants.{MAX_STATES}
@@ -120,13 +120,9 @@ with_all_new-different xs (y ∷ ys) h = with_all_new-different (with_new xs y) 
 with_new-all : (P : Path → Type 0) (xs : List Path) (a : Path) → AllByRecursion P xs → P a → AllByRecursion P (with_new xs a)
 with_new-all P xs a h p = by (list_any (λ b. is a b) xs)
   where
-    snoc : (ys : List Path) → AllByRecursion P ys → AllByRecursion P (ys ++ a ∷ [])
-    snoc [] g = (p, tt)
-    snoc (y ∷ ys) g = (g.0, snoc ys g.1)
-
     by : (t : Bool) → AllByRecursion P (cond t xs (xs ++ a ∷ []))
     by true = h
-    by false = snoc xs h
+    by false = all_both P xs (a ∷ []) h (p, tt)
 
 pub with_all_new-all : (P : Path → Type 0) (xs ys : List Path) → AllByRecursion P xs → AllByRecursion P ys → AllByRecursion P (with_all_new xs ys)
 with_all_new-all P xs [] h g = h

@@ -3,6 +3,7 @@ use Rattle.std.proofs.Common.{◌≡◌, ◌<◌, ◌||◌, ℕ, suc, zero, nat_
 use Rattle.std.specs.List.{list_any}
 use Rattle.std.proofs.lemmas.Bool.{eqb-true}
 use Rattle.merlin_model.specs.declared.policy.Path.{Path, Nothing}
+use Rattle.merlin_model.proofs.Members.{all_both}
 use Rattle.path_automaton.specs.States.{with_new}
 use Rattle.path_automaton.specs.Shared.{form_at, AreDistinct, AreFound, AddsForms}
 use Rattle.path_automaton.proofs.Places.{is, is-same, is-itself, false-true}
@@ -60,10 +61,6 @@ module _ (forms : List Path) (d : AreDistinct forms) (next : ℕ) (lt : next < l
   pub found-more : (ks : List ℕ) → AreFound forms ks → AreFound forms (cond (list_any (nat_eq next) ks) ks (ks ++ next ∷ []))
   found-more ks h = by (list_any (nat_eq next) ks)
     where
-      snoc : (js : List ℕ) → AreFound forms js → AreFound forms (js ++ next ∷ [])
-      snoc [] g = (lt, tt)
-      snoc (j ∷ js) g = (g.0, snoc js g.1)
-
       by : (t : Bool) → AreFound forms (cond t ks (ks ++ next ∷ []))
       by true = h
-      by false = snoc ks h
+      by false = all_both (λ k. k < length forms) ks (next ∷ []) h (lt, tt)

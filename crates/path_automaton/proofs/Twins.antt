@@ -8,7 +8,7 @@ use Rattle.merlin_model.specs.declared.policy.Path.TheBlock.{hidden-the_row-Path
 use denote.Hole.Carrier.{hidden}
 use Rattle.path_regex.specs.Normal.{cat_of, alt_of, not_of, normal_of}
 use Rattle.path_regex.specs.Derivatives.{takes_empty, empty_if, has_no_function, is_function, not_if, with_next, derivative_of, derivatives}
-use Rattle.path_regex.proofs.Kept.{IsOfParts, normal-kept, derivative-kept}
+use Rattle.path_regex.proofs.Kept.{IsOfParts, of_parts, normal-kept, derivative-kept}
 use Rattle.path_automaton.specs.SeenSymbols.{mentions, some_mention, seen_where}
 use Rattle.path_automaton.specs.Classes.{IsBlind}
 use Rattle.path_regex.specs.States.{rest_after}
@@ -32,23 +32,9 @@ module _ (x y : Symbol) where
     EachTwin end_of-Path = ⊤
     EachTwin (more_of-Path a row) = IsTwin a × EachTwin row
 
-  each-twin : (paths : List Path) → IsTwin (Alt paths) ≡ AllByRecursion IsTwin paths
-  unfolding hidden-the_row-Path-0 hidden-the_row-Path-1 hidden
-  each-twin [] = refl
-  each-twin (a ∷ paths) = ap (λ T. IsTwin a × T) (each-twin paths)
-
   twin-parts : IsOfParts IsTwin
-  unfolding hidden-the_row-Path-1 hidden
-  twin-parts = record {
-    nothing = tt;
-    empty = tt;
-    cat = λ a b f g. (f, g);
-    uncat = λ a b h. h;
-    alt = λ paths h. subst (λ T. T) (sym (each-twin paths)) h;
-    unalt = λ paths h. subst (λ T. T) (each-twin paths) h;
-    star = λ a h. h;
-    unstar = λ a h. h;
-  }
+  unfolding hidden-the_row-Path-0 hidden-the_row-Path-1 hidden
+  twin-parts = of_parts IsTwin tt tt (λ a b. refl) refl (λ a paths. refl) (λ a. refl)
 
   not_of-twin : (a : Path) → IsTwin a → IsTwin (not_of a)
   unfolding hidden-the_row-Path-1 hidden

@@ -1,4 +1,4 @@
-//! The automaton of a path.
+//! The automaton of a path, by Brzozowski's construction (1964): its states are the normal forms of the path's derivatives.
 
 ghost use Rattle.std.specs.Prelude.{◌≡◌, ◌<◌, length, map, IfOk};
 ghost use Rattle.path_regex.specs.Derivatives.{takes_empty};

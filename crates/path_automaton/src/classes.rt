@@ -1,4 +1,5 @@
-//! Classes of symbols that a path cannot tell apart.
+//! Classes of symbols that a path cannot tell apart, so that one derivative serves a whole class (derivative classes, as Owens,
+//! Reppy and Turon have them, 2009).
 
 ghost use Rattle.std.specs.Prelude.{◌≡◌, ℕ, List, length, map, slice_get, Some, Contains};
 ghost use Rattle.std.specs.Prelude.{IfOk, MatchOption};

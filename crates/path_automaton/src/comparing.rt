@@ -1,4 +1,4 @@
-//! Comparing normal forms that share their parts.
+//! Comparing normal forms that share their parts: part by part from the left, and at once where both stand at one place.
 
 ghost use Rattle.std.specs.Prelude.{◌≡◌, ◌<◌, length};
 ghost use Rattle.path_regex.specs.Order.{order};

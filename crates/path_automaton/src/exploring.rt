@@ -1,4 +1,5 @@
-//! Finding the states of a path.
+//! Finding the states of a path: breadth-first exploration, the states in the order in which they were found, and each by the
+//! symbols in order.
 
 ghost use Rattle.std.specs.Prelude.{◌≡◌, ◌<◌, ◌≤◌, length};
 ghost use Rattle.merlin_model.specs.declared.policy.Path.{Nothing};
@@ -24,7 +25,8 @@ fn row(
 ) -> Result<Items<usize>, AutomatonFault>
     requires within { state < length states.old }
     requires few { length states.old ≤ MAX_STATES }
-    ensures { IsFollowed states.old (get_or states.old state Nothing) symbols.now states.new result }
+    ensures { let form = get_or states.old state Nothing in
+        IsFollowed states.old form symbols.now states.new result }
 {
     let mut places = Items::new(alloc);
     for symbol in symbols {

@@ -1,4 +1,4 @@
-//! Normal forms that share their parts: each is kept once, and is named by its place.
+//! Normal forms that share their parts: each is kept once, and is named by its place (hash consing, Ershov 1958).
 
 ghost use Rattle.std.specs.Prelude.{◌≡◌, ◌<◌, [], length, IfOk};
 ghost use Rattle.path_automaton.specs.Shared.{meaning, PartsStandBefore, IsNode, AreDistinct};

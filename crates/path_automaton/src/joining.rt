@@ -1,4 +1,5 @@
-//! Joining normal forms that share their parts.
+//! Joining normal forms that share their parts: Cats lean to the right, and the members of an Alt are flat, ordered and each there
+//! once (Brzozowski's similarity, by which a path has finitely many derivatives).
 
 ghost use Rattle.std.specs.Prelude.{◌≡◌, ◌<◌, ◌∷◌, length, map, IfOk};
 ghost use Rattle.std.specs.List.{AllByRecursion, flat_map};

@@ -1,4 +1,5 @@
-//! Which states of an automaton lead to an accepting one.
+//! Which states of an automaton lead to an accepting one: marks spread backwards over the steps, round by round, until a round
+//! marks none.
 
 ghost use Rattle.std.specs.Prelude.{◌≡◌, ◌<◌, length, IfOk};
 ghost use Rattle.std.specs.List.{AllByRecursion, list_any};

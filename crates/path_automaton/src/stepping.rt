@@ -1,4 +1,4 @@
-//! Derivatives of normal forms that share their parts, and the empty word.
+//! Brzozowski's derivatives (1964) of normal forms that share their parts, and the empty word.
 
 ghost use Rattle.std.specs.Prelude.{◌≡◌, ◌<◌, ◌∷◌, [], length, map, IfOk};
 ghost use Rattle.std.specs.List.{flat_map};

@@ -1,6 +1,5 @@
 -- Paths without functions, and functions under a Not: kept by normal forms and derivatives.
-use Rattle.std.proofs.Common.{◌≡◌, List, [], ◌∷◌, refl, sym, ap, subst}
-use Rattle.std.specs.List.{AllByRecursion}
+use Rattle.std.proofs.Common.{refl}
 use Rattle.merlin_model.specs.declared.policy.Symbol.{Symbol}
 use Rattle.merlin_model.specs.declared.policy.Path.{Path, Nothing, Empty, Dot, Loc, Fun, Cat', Alt, Alt', Star', Not', Row_of-Path, end_of-Path, more_of-Path}
 use Rattle.merlin_model.specs.declared.policy.Path.TheBlock.{hidden-the_row-Path-0, hidden-the_row-Path-1}
@@ -8,43 +7,15 @@ use denote.Hole.Carrier.{hidden}
 use Rattle.path_regex.specs.Normal.{not_of, normal_of}
 use Rattle.path_regex.specs.Derivatives.{derivative_of}
 use Rattle.path_regex.specs.Functions.{HasNoFun, EachHasNoFun, HasNoFunctionUnderNot, EachHasNoFunctionUnderNot}
-use Rattle.path_regex.proofs.Kept.{IsOfParts, normal-kept, derivative-kept}
-
-each-none : (paths : List Path) → HasNoFun (Alt paths) ≡ AllByRecursion HasNoFun paths
-unfolding hidden-the_row-Path-0 hidden-the_row-Path-1 hidden
-each-none [] = refl
-each-none (a ∷ paths) = ap (λ T. HasNoFun a × T) (each-none paths)
-
-each-none_under : (paths : List Path) → HasNoFunctionUnderNot (Alt paths) ≡ AllByRecursion HasNoFunctionUnderNot paths
-unfolding hidden-the_row-Path-0 hidden-the_row-Path-1 hidden
-each-none_under [] = refl
-each-none_under (a ∷ paths) = ap (λ T. HasNoFunctionUnderNot a × T) (each-none_under paths)
+use Rattle.path_regex.proofs.Kept.{IsOfParts, of_parts, normal-kept, derivative-kept}
 
 no_fun-parts : IsOfParts HasNoFun
-unfolding hidden-the_row-Path-1 hidden
-no_fun-parts = record {
-  nothing = tt;
-  empty = tt;
-  cat = λ a b f g. (f, g);
-  uncat = λ a b h. h;
-  alt = λ paths h. subst (λ T. T) (sym (each-none paths)) h;
-  unalt = λ paths h. subst (λ T. T) (each-none paths) h;
-  star = λ a h. h;
-  unstar = λ a h. h;
-}
+unfolding hidden-the_row-Path-0 hidden-the_row-Path-1 hidden
+no_fun-parts = of_parts HasNoFun tt tt (λ a b. refl) refl (λ a paths. refl) (λ a. refl)
 
 under-parts : IsOfParts HasNoFunctionUnderNot
-unfolding hidden-the_row-Path-1 hidden
-under-parts = record {
-  nothing = tt;
-  empty = tt;
-  cat = λ a b f g. (f, g);
-  uncat = λ a b h. h;
-  alt = λ paths h. subst (λ T. T) (sym (each-none_under paths)) h;
-  unalt = λ paths h. subst (λ T. T) (each-none_under paths) h;
-  star = λ a h. h;
-  unstar = λ a h. h;
-}
+unfolding hidden-the_row-Path-0 hidden-the_row-Path-1 hidden
+under-parts = of_parts HasNoFunctionUnderNot tt tt (λ a b. refl) refl (λ a paths. refl) (λ a. refl)
 
 mutual
   -- without functions there are none under a Not

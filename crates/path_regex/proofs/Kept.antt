@@ -1,5 +1,6 @@
 -- What holds of paths exactly where it holds of their parts is kept by normal forms and derivatives.
-use Rattle.std.proofs.Common.{◌==◌, ◌&&◌, Bool, true, false, List, [], ◌∷◌, ◌++◌, map, subst}
+use Rattle.std.proofs.Common.{◌≡◌, ◌==◌, ◌&&◌, Bool, true, false, List, [], ◌∷◌, ◌++◌, map, sym, ◌∙◌, ap, subst}
+use Rattle.std.specs.Prelude.{⊤}
 use Rattle.std.specs.List.{AllByRecursion, flat_map}
 use Rattle.std.specs.Ordering.{match_ordering}
 use Rattle.std.specs.declared.cmp.Ordering.{Ordering}
@@ -8,6 +9,7 @@ use Rattle.merlin_model.specs.declared.policy.Symbol.{Symbol}
 use Rattle.merlin_model.specs.declared.policy.Path.{Path, Nothing, Empty, Dot, Loc, Fun, Cat, Cat', Alt, Alt', Star, Star', Not, Not', Row_of-Path, end_of-Path, more_of-Path}
 use Rattle.merlin_model.specs.declared.policy.Path.TheBlock.{hidden-the_row-Path-1}
 use denote.Hole.Carrier.{hidden}
+use Rattle.merlin_model.proofs.Members.{all_both}
 use Rattle.path_regex.specs.Parts.{listed, Alt-listed}
 use Rattle.path_regex.specs.Order.{order}
 use Rattle.path_regex.specs.Normal.{grouped_cat, cat_of, members, added, added_all, one_of, alt_of, star_of, not_of, normal_of, normals}
@@ -24,9 +26,22 @@ pub record IsOfParts (Q : Path → Type 0) : Type 0 where
   pub star : (a : Path) → Q a → Q (Star a)
   pub unstar : (a : Path) → Q (Star a) → Q a
 
-pub all-append : {X : Type 0} (Q : X → Type 0) (xs ys : List X) → AllByRecursion Q xs → AllByRecursion Q ys → AllByRecursion Q (xs ++ ys)
-all-append Q [] ys h g = g
-all-append Q (x ∷ xs) ys h g = (h.0, all-append Q xs ys h.1 g)
+-- what is by each path's variant what it says of the parts
+pub of_parts : (Q : Path → Type 0) → Q Nothing → Q Empty → ((a b : Path) → Q (Cat a b) ≡ (Q a × Q b)) → Q (Alt []) ≡ ⊤ → ((a : Path) (paths : List Path) → Q (Alt (a ∷ paths)) ≡ (Q a × Q (Alt paths))) → ((a : Path) → Q (Star a) ≡ Q a) → IsOfParts Q
+of_parts Q nothing empty cat none some star = record {
+  nothing = nothing;
+  empty = empty;
+  cat = λ a b f g. subst (λ T. T) (sym (cat a b)) (f, g);
+  uncat = λ a b h. subst (λ T. T) (cat a b) h;
+  alt = λ paths h. subst (λ T. T) (sym (each paths)) h;
+  unalt = λ paths h. subst (λ T. T) (each paths) h;
+  star = λ a h. subst (λ T. T) (sym (star a)) h;
+  unstar = λ a h. subst (λ T. T) (star a) h;
+}
+  where
+    each : (paths : List Path) → Q (Alt paths) ≡ AllByRecursion Q paths
+    each [] = none
+    each (a ∷ paths) = some a paths ∙ ap (λ T. Q a × T) (each paths)
 
 pub all-map : {X Y : Type 0} (P : X → Type 0) (Q : Y → Type 0) (f : X → Y) (xs : List X) → ((x : X) → P x → Q (f x)) → AllByRecursion P xs → AllByRecursion Q (map f xs)
 all-map P Q f [] k h = tt
@@ -66,7 +81,7 @@ module _ (Q : Path → Type 0) (q : IsOfParts Q) where
 
   all-members-kept : (paths : List Path) → AllByRecursion Q paths → AllByRecursion Q (flat_map members paths)
   all-members-kept [] h = tt
-  all-members-kept (a ∷ paths) h = all-append Q (members a) (flat_map members paths) (members-kept a h.0) (all-members-kept paths h.1)
+  all-members-kept (a ∷ paths) h = all_both Q (members a) (flat_map members paths) (members-kept a h.0) (all-members-kept paths h.1)
 
   one_of-kept : (paths : List Path) → AllByRecursion Q paths → Q (one_of paths)
   one_of-kept [] h = q.nothing

@@ -13,6 +13,7 @@ use Rattle.path_regex.specs.Parts.{listed}
 use Rattle.path_regex.specs.Order.{order}
 use Rattle.path_regex.specs.Normal.{grouped_cat, cat_of, members, added, added_all, one_of, alt_of, star_of}
 use Rattle.path_regex.proofs.Ordered.{same}
+use Rattle.path_regex.proofs.Plain.{either}
 
 -- Both ways.
 
@@ -27,17 +28,6 @@ itself = (λ h. h, λ h. h)
 
 pub by_equality : {A B : Type 0} → A ≡ B → A ↔ B
 by_equality e = (λ h. subst (λ T. T) e h, λ h. subst (λ T. T) (sym e) h)
-
-pub or : {A B C D : Type 0} → A ↔ C → B ↔ D → (A ⊎ B) ↔ (C ⊎ D)
-or {A} {B} {C} {D} f g = (to, from)
-  where
-    to : A ⊎ B → C ⊎ D
-    to (inl h) = inl (f.0 h)
-    to (inr h) = inr (g.0 h)
-
-    from : C ⊎ D → A ⊎ B
-    from (inl h) = inl (f.1 h)
-    from (inr h) = inr (g.1 h)
 
 or-nothing : {A : Type 0} → A ↔ (A ⊎ ⊥)
 or-nothing {A} = (λ h. inl h, from)
@@ -97,11 +87,11 @@ some-append [] ys w = (λ h. inr h, from)
     from : ⊥ ⊎ InSome ys w → InSome ys w
     from (inl h) = absurd h
     from (inr h) = h
-some-append (x ∷ xs) ys w = along (or itself (some-append xs ys w)) or-grouped
+some-append (x ∷ xs) ys w = along (either itself (some-append xs ys w)) or-grouped
 
 some-listed : {n : _} → (row : Row_of-Path n) (w : List Symbol) → InSome (listed row) w ↔ InSomeLanguage row w
 some-listed end_of-Path w = itself
-some-listed (more_of-Path a row) w = or itself (some-listed row w)
+some-listed (more_of-Path a row) w = either itself (some-listed row w)
 
 members-take : (a : Path) (w : List Symbol) → InSome (members a) w ↔ InLanguage a w
 members-take Nothing w = itself
@@ -130,7 +120,7 @@ added-takes a (b ∷ rest) w = by (order a b) refl (added-takes a rest w)
     by : (o : Ordering) → order a b ≡ o → InSome (added a rest) w ↔ (InLanguage a w ⊎ InSome rest w) → InSome (match_ordering o (a ∷ b ∷ rest) (b ∷ rest) (b ∷ added a rest)) w ↔ (InLanguage a w ⊎ (InLanguage b w ⊎ InSome rest w))
     by Less e ih = itself
     by Equal e ih = once (same a b e)
-    by Greater e ih = along (or itself ih) later
+    by Greater e ih = along (either itself ih) later
 
 added_all-take : (paths others : List Path) (w : List Symbol) → InSome (added_all paths others) w ↔ (InSome paths w ⊎ InSome others w)
 added_all-take [] others w = (λ h. inr h, from)
@@ -138,7 +128,7 @@ added_all-take [] others w = (λ h. inr h, from)
     from : ⊥ ⊎ InSome others w → InSome others w
     from (inl h) = absurd h
     from (inr h) = h
-added_all-take (a ∷ paths) others w = along (added-takes a (added_all paths others) w) (along (or itself (added_all-take paths others w)) or-grouped)
+added_all-take (a ∷ paths) others w = along (added-takes a (added_all paths others) w) (along (either itself (added_all-take paths others w)) or-grouped)
 
 one_of-takes : (paths : List Path) (w : List Symbol) → InLanguage (one_of paths) w ↔ InSome paths w
 one_of-takes [] w = itself
@@ -147,7 +137,7 @@ one_of-takes (a ∷ b ∷ rest) w = by_equality (Alt-is (a ∷ b ∷ rest) w)
 
 all-members-take : (paths : List Path) (w : List Symbol) → InSome (flat_map members paths) w ↔ InSome paths w
 all-members-take [] w = itself
-all-members-take (a ∷ paths) w = along (some-append (members a) (flat_map members paths) w) (or (members-take a w) (all-members-take paths w))
+all-members-take (a ∷ paths) w = along (some-append (members a) (flat_map members paths) w) (either (members-take a w) (all-members-take paths w))
 
 pub alt_of-takes : (paths : List Path) (w : List Symbol) → InLanguage (alt_of paths) w ↔ InSome paths w
 alt_of-takes paths w =

@@ -7,10 +7,10 @@ use Rattle.merlin_model.specs.Paths.{InLanguage, InSomeLanguage, InSome, concate
 use Rattle.path_regex.specs.Normal.{cat_of, not_of, normal_of, normals}
 use Rattle.path_regex.specs.Derivatives.{takes_empty, has_no_function, not_if, with_next, derivative_of, derivatives}
 use Rattle.path_regex.specs.Functions.{HasNoFun, EachHasNoFun, HasNoFunctionUnderNot, EachHasNoFunctionUnderNot}
-use Rattle.path_regex.proofs.Languages.{along, back, itself, by_equality, or, Alike, Joins-alike, Star-alike, cat_of-takes, alt_of-takes, star_of-takes}
-use Rattle.path_regex.proofs.Kept.{all-append}
+use Rattle.path_regex.proofs.Languages.{along, back, itself, by_equality, Alike, Joins-alike, Star-alike, cat_of-takes, alt_of-takes, star_of-takes}
+use Rattle.merlin_model.proofs.Members.{all_both}
 use Rattle.path_regex.proofs.Functionless.{none-under, normal-none, derivative-none}
-use Rattle.path_regex.proofs.Plain.{plain, plains, not_if as plain_not_if, with_next as plain_with_next, quotient, decided}
+use Rattle.path_regex.proofs.Plain.{either, plain, plains, not_if as plain_not_if, with_next as plain_with_next, quotient, decided}
 
 -- A path without functions takes words without functions.
 
@@ -25,7 +25,7 @@ mutual
   plain-words (Loc l) n w h = subst IsPlain (sym h) (refl, tt)
   plain-words (Fun f) n w h = absurd n
   plain-words (Cat' s (more_of-Path a end_of-Path) t (more_of-Path b end_of-Path)) n w h =
-      subst IsPlain (sym h.2) (all-append HasNoFunction h.0 h.1 (plain-words a n.0 h.0 h.3) (plain-words b n.1 h.1 h.4))
+      subst IsPlain (sym h.2) (all_both HasNoFunction h.0 h.1 (plain-words a n.0 h.0 h.3) (plain-words b n.1 h.1 h.4))
   plain-words (Alt' s row) n w h = some-plain row n w h
   plain-words (Star' s (more_of-Path a end_of-Path)) n w h = subst IsPlain (sym h.1) (all-joined h.0 (all-words (InLanguage a) (plain-words a n) h.0 h.2))
     where
@@ -35,7 +35,7 @@ mutual
 
       all-joined : (parts : List (List Symbol)) → AllByRecursion IsPlain parts → IsPlain (concatenation parts)
       all-joined [] g = tt
-      all-joined (u ∷ parts) g = all-append HasNoFunction u (concatenation parts) g.0 (all-joined parts g.1)
+      all-joined (u ∷ parts) g = all_both HasNoFunction u (concatenation parts) g.0 (all-joined parts g.1)
   plain-words (Not' s (more_of-Path a end_of-Path)) n w h = h.0
 
   some-plain : {n : _} → (row : Row_of-Path n) → EachHasNoFun row → (w : List Symbol) → InSomeLanguage row w → IsPlain w
@@ -81,13 +81,13 @@ mutual
 
   normals-take : {n : _} → (row : Row_of-Path n) → EachHasNoFunctionUnderNot row → (w : List Symbol) → InSome (normals row) w ↔ InSomeLanguage row w
   normals-take end_of-Path n w = itself
-  normals-take (more_of-Path a row) n w = or (normal-takes a n.0 w) (normals-take row n.1 w)
+  normals-take (more_of-Path a row) n w = either (normal-takes a n.0 w) (normals-take row n.1 w)
 
 -- Derivatives.
 
 with_next-takes : (b : Bool) (first next other later : Path) → Alike first other → Alike next later → (w : List Symbol) → InLanguage (with_next b first next) w ↔ InLanguage (plain_with_next b other later) w
 with_next-takes true first next other later f g w =
-    along (alt_of-takes (first ∷ next ∷ []) w) (along (or (f w) (or (g w) itself)) (back (by_equality (Alt-is (other ∷ later ∷ []) w))))
+    along (alt_of-takes (first ∷ next ∷ []) w) (along (either (f w) (either (g w) itself)) (back (by_equality (Alt-is (other ∷ later ∷ []) w))))
 with_next-takes false first next other later f g w = f w
 
 mutual
@@ -114,7 +114,7 @@ mutual
 
   derivatives-take : {n : _} → (row : Row_of-Path n) → EachHasNoFunctionUnderNot row → (x : Symbol) (w : List Symbol) → InSome (derivatives row x) w ↔ InSome (plains row x) w
   derivatives-take end_of-Path n x w = itself
-  derivatives-take (more_of-Path a row) n x w = or (derivative-takes a n.0 x w) (derivatives-take row n.1 x w)
+  derivatives-take (more_of-Path a row) n x w = either (derivative-takes a n.0 x w) (derivatives-take row n.1 x w)
 
 pub derivative-quotient : (a : Path) → HasNoFunctionUnderNot a → (x : Symbol) (w : List Symbol) → InLanguage (derivative_of a x) w ↔ InLanguage a (x ∷ w)
 derivative-quotient a n x w = along (derivative-takes a n x w) (quotient a x w)

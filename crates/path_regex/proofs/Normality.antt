@@ -15,7 +15,8 @@ use Rattle.path_regex.specs.Order.{spelled, order, AscendStrictly}
 use Rattle.path_regex.specs.Normal.{grouped_cat, cat_of, members, added, added_all, one_of, alt_of, star_of, not_of, normal_of, normals, IsNormalForm}
 use Rattle.path_regex.specs.Derivatives.{takes_empty, empty_if, has_no_function, not_if, with_next, derivative_of, derivatives}
 use Rattle.path_regex.proofs.Shapes.{members-Alt}
-use Rattle.path_regex.proofs.Kept.{all-append, added_all-all}
+use Rattle.merlin_model.proofs.Members.{all_both}
+use Rattle.path_regex.proofs.Kept.{added_all-all}
 
 -- The shape.
 
@@ -171,7 +172,7 @@ members-normal a n = ((n, tt), tt)
 
 all-members-normal : (paths : List Path) → AllByRecursion IsNormal paths → AllByRecursion IsNormalMember (flat_map members paths)
 all-members-normal [] h = tt
-all-members-normal (a ∷ paths) h = all-append IsNormalMember (members a) (flat_map members paths) (members-normal a h.0) (all-members-normal paths h.1)
+all-members-normal (a ∷ paths) h = all_both IsNormalMember (members a) (flat_map members paths) (members-normal a h.0) (all-members-normal paths h.1)
 
 one_of-normal : (paths : List Path) → AllByRecursion IsNormalMember paths → AscendStrictly paths → IsNormal (one_of paths)
 one_of-normal [] h asc = tt

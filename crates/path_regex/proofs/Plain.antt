@@ -60,7 +60,7 @@ both-true : (a b : Bool) → (a && b ≡ true) ↔ ((a ≡ true) × (b ≡ true)
 both-true true b = (λ e. (refl, e), λ e. e.1)
 both-true false b = (λ e. absurd (false-true e), λ e. absurd (false-true e.0))
 
-either : {A B C D : Type 0} → A ↔ C → B ↔ D → (A ⊎ B) ↔ (C ⊎ D)
+pub either : {A B C D : Type 0} → A ↔ C → B ↔ D → (A ⊎ B) ↔ (C ⊎ D)
 either {A} {B} {C} {D} f g = (to, from)
   where
     to : A ⊎ B → C ⊎ D

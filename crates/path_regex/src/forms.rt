@@ -77,7 +77,7 @@ fn followed_by(alloc: Global, first: Path, rest: &Path) -> Result<Path, OutOfMem
 }
 
 /// What may follow after a symbol.
-pub fn after(alloc: Global, path: &Path, symbol: Symbol) -> Result<Path, OutOfMemory>
+pub fn derivative_form(alloc: Global, path: &Path, symbol: Symbol) -> Result<Path, OutOfMemory>
     ensures { IfOk result (λ rest. rest ≡ derivative_of path.now symbol) }
 {
     match path {
@@ -86,25 +86,29 @@ pub fn after(alloc: Global, path: &Path, symbol: Symbol) -> Result<Path, OutOfMe
         Path::Loc(loc) => Ok(empty_if(symbol.fun.is_none() && *loc == symbol.loc)),
         Path::Fun(fun) => Ok(empty_if(symbol.fun == Some(*fun))),
         Path::Cat(first, rest) => {
-            let way = followed_by(alloc, after(alloc, first.get(), symbol)?, rest.get())?;
+            let way = followed_by(
+                alloc,
+                derivative_form(alloc, first.get(), symbol)?,
+                rest.get(),
+            )?;
             if !takes_empty(first.get()) {
                 return Ok(way);
             }
             let mut ways = Items::new(alloc);
             ways.push(way)?;
-            ways.push(after(alloc, rest.get(), symbol)?)?;
+            ways.push(derivative_form(alloc, rest.get(), symbol)?)?;
             alt_of(alloc, ways)
         }
         Path::Alt(paths) => {
             let mut ways = Items::new(alloc);
             for path in paths.as_slice() {
-                ways.push(after(alloc, path, symbol)?)?;
+                ways.push(derivative_form(alloc, path, symbol)?)?;
             }
             alt_of(alloc, ways)
         }
-        Path::Star(inner) => followed_by(alloc, after(alloc, inner.get(), symbol)?, path),
+        Path::Star(inner) => followed_by(alloc, derivative_form(alloc, inner.get(), symbol)?, path),
         Path::Not(inner) => match symbol.fun {
-            None => not_of(alloc, after(alloc, inner.get(), symbol)?),
+            None => not_of(alloc, derivative_form(alloc, inner.get(), symbol)?),
             Some(_) => Ok(Path::Nothing),
         },
     }

@@ -36,7 +36,7 @@ pub fn derivative(alloc: Global, path: &Path, symbol: Symbol) -> Result<Path, Ou
     ensures functions { HasNoFunctionUnderNot path.now → IfOk result HasNoFunctionUnderNot }
     ensures quotient { HasNoFunctionUnderNot path.now → IfOk result (IsQuotient path.now symbol) }
 {
-    forms::after(alloc, path, symbol)
+    forms::derivative_form(alloc, path, symbol)
 }
 
 /// Whether the path takes the empty word.

@@ -1,6 +1,7 @@
-//! The order of paths.
+//! The order of paths: that of the words that spell them from the left, each variant as a number before its parts.
 
 ghost use Rattle.std.specs.Prelude.{◌≡◌};
+ghost use Rattle.std.specs.Cmp.Lexicographic.{slice_cmp};
 ghost use Rattle.path_regex.specs.Order.{rank as rank_of, order};
 
 use merlin_model::policy::Path;
@@ -24,6 +25,7 @@ fn rank(path: &Path) -> u8
 }
 
 /// Compares two paths by their variants, and paths of one variant by their parts.
+#[cycle(compare)]
 pub fn compare(first: &Path, second: &Path) -> Ordering
     ensures { result ≡ order first.now second.now }
 {
@@ -46,24 +48,7 @@ pub fn compare(first: &Path, second: &Path) -> Ordering
             _ => ranks,
         },
         Path::Alt(paths) => match second {
-            Path::Alt(others) => {
-                let mut left = others.as_slice();
-                for path in paths.as_slice() {
-                    let [other, rest @ ..] = left else {
-                        return Ordering::Greater;
-                    };
-                    let members = compare(path, other);
-                    if members.is_ne() {
-                        return members;
-                    }
-                    left = rest;
-                }
-                if left.is_empty() {
-                    Ordering::Equal
-                } else {
-                    Ordering::Less
-                }
-            }
+            Path::Alt(others) => compare_members(paths.as_slice(), others.as_slice()),
             _ => ranks,
         },
         Path::Star(first) => match second {
@@ -74,5 +59,28 @@ pub fn compare(first: &Path, second: &Path) -> Ordering
             Path::Not(second) => compare(first.get(), second.get()),
             _ => ranks,
         },
+    }
+}
+
+/// Compares two lists of paths by the first place at which they differ; a list comes before what goes on behind it.
+#[cycle(compare)]
+fn compare_members(paths: &[Path], others: &[Path]) -> Ordering
+    ensures { result ≡ slice_cmp order paths.now others.now }
+{
+    let mut left = others;
+    for path in paths {
+        let [other, rest @ ..] = left else {
+            return Ordering::Greater;
+        };
+        let members = compare(path, other);
+        if members.is_ne() {
+            return members;
+        }
+        left = rest;
+    }
+    if left.is_empty() {
+        Ordering::Equal
+    } else {
+        Ordering::Less
     }
 }

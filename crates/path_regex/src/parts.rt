@@ -1,4 +1,5 @@
-//! Paths put together, in normal form where their parts are.
+//! Paths put together, in normal form where their parts are: Cats lean to the right, and the members of an Alt are flat, ordered
+//! and each there once (Brzozowski's similarity, by which a path has finitely many derivatives).
 
 ghost use Rattle.std.specs.Prelude.{◌≡◌, IfOk, OnOk};
 ghost use Rattle.path_regex.specs.Normal.{grouped_cat as grouped, cat_of as cat, star_of as star};

@@ -16,8 +16,8 @@ returns c =
     let path : Path = c.args.path.now in
     let x : Symbol = c.args.symbol in
     record {
-      is = c.after.ensures;
-      own = λ n. if_ok IsNormalForm c.after.result (derivative_of path x) c.after.ensures (derivative-own path x n);
-      functions = λ n. if_ok HasNoFunctionUnderNot c.after.result (derivative_of path x) c.after.ensures (derivative-under path x n);
-      quotient = λ n. if_ok (λ rest. (w : List Symbol) → InLanguage rest w ↔ InLanguage path (x ∷ w)) c.after.result (derivative_of path x) c.after.ensures (derivative-quotient path n x);
+      is = c.derivative_form.ensures;
+      own = λ n. if_ok IsNormalForm c.derivative_form.result (derivative_of path x) c.derivative_form.ensures (derivative-own path x n);
+      functions = λ n. if_ok HasNoFunctionUnderNot c.derivative_form.result (derivative_of path x) c.derivative_form.ensures (derivative-under path x n);
+      quotient = λ n. if_ok (λ rest. (w : List Symbol) → InLanguage rest w ↔ InLanguage path (x ∷ w)) c.derivative_form.result (derivative_of path x) c.derivative_form.ensures (derivative-quotient path n x);
     }

@@ -20,7 +20,7 @@ returns-in_default c =
 
 pub strays-requires-clause-inside : goal.strays-requires-clause-inside
 strays-requires-clause-inside c =
-    all-get (IsInside (grounds_of c.args.ways.now c.args.a.now c.args.b.now) (length c.args.ways.now.places)) c.loop-turn.found.keys c.loop-turn.turn c.in-Some.triple.now c.loop-turn.invariant.inside (sym c.in-Some.ensures.key)
+    all-get (IsInside (grounds_of c.args.ways.now c.args.a.now c.args.b.now) (length c.args.ways.now.places)) c.loop-turn.found.keys c.loop-turn.turn c.in-Some.triple.now c.loop-turn.invariant.lead.inside (sym c.in-Some.ensures.key)
 
 pub returns-then-strays : goal.returns-then-strays
 returns-then-strays c =

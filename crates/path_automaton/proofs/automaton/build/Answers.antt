@@ -26,6 +26,18 @@ AreFound path c e = AreExploring (normal_of path) c.firsts e.states e.rows × (l
 found : (path : Path) (c : Classes) (firsts : List Symbol) (e : Explored) → firsts ≡ c.firsts → IsExplored (normal_of path) firsts (Ok e) → AreFound path c e
 found path c firsts e s h = subst (λ l. AreExploring (normal_of path) l e.states e.rows × (length e.rows ≡ length e.states)) s h
 
+-- the same, with the states that live on
+record IsDone (path : Path) (c : Classes) (e : Explored) (living : List Bool) : Type 0 where
+  found : AreFound path c e
+  lives : AreLiving e.rows (map takes_empty e.states) living
+
+done : (path : Path) (c : Classes) (firsts : List Symbol) (e : Explored) (rows : List (List ℕ)) (flags accepting living : List Bool) → firsts ≡ c.firsts → IsExplored (normal_of path) firsts (Ok e) →
+    rows ≡ e.rows → flags ≡ accepting → accepting ≡ map takes_empty e.states → AreLiving rows flags living → IsDone path c e living
+done path c firsts e rows flags accepting living s h r f a living_before = record {
+  found = found path c firsts e s h;
+  lives = subst (λ (l : List Bool). AreLiving e.rows l living) (f ∙ a) (subst (λ (rows : List (List ℕ)). AreLiving rows flags living) r living_before);
+}
+
 -- a fault that is passed on
 passed : (path : Path) (symbols : List Symbol) (c : Classes) (firsts : List Symbol) → AreClasses path symbols c → firsts ≡ c.firsts → (e : AutomatonFault) → IsExplored (normal_of path) firsts (Err e) →
     (r : Result AutomatonTables AutomatonFault) → IsErrAnd r (λ f. f ≡ e) → IsBuilt path symbols r
@@ -54,41 +66,26 @@ living-requires c =
 
 pub invariant_of-result : goal.invariant_of-result
 invariant_of-result c =
-    let classes : Classes = c.in_ok-numbers.field-0 in
-    let e : Explored = c.in_ok-states.field-0 in
-    let are : AreClasses c.args.path.now c.args.symbols.now classes = c.in_ok-numbers.ensures in
-    let f : AreFound c.args.path.now classes e = found c.args.path.now classes c.as_slice.result.now e c.as_slice.ensures c.in_ok-states.ensures in
-    let flags : c.in_ok-accepting.accepting ≡ map takes_empty e.states = c.in_ok-accepting.ensures in
-    let living : AreLiving e.rows (map takes_empty e.states) c.in_ok-living.living =
-    subst (λ (l : List Bool). AreLiving e.rows l c.in_ok-living.living) (c.as_slice-3.ensures ∙ flags)
-    (subst (λ (rows : List (List ℕ)). AreLiving rows c.as_slice-3.result.now c.in_ok-living.living) c.as_slice-2.ensures c.in_ok-living.ensures) in
-    subst (λ (l : List Bool). AreWhole e.rows classes.numbers l c.in_ok-living.living) (sym flags) (is-whole c.args.path.now c.args.symbols.now classes are e.states e.rows f.0 f.1 c.in_ok-living.living living)
+    let classes : Classes = c.in_ok-numbers.field-0 in let are : AreClasses c.args.path.now c.args.symbols.now classes = c.in_ok-numbers.ensures in
+    let e : Explored = c.in_ok-states.field-0 in let flags : c.in_ok-accepting.accepting ≡ map takes_empty e.states = c.in_ok-accepting.ensures in
+    let d : IsDone c.args.path.now classes e c.in_ok-living.living = done c.args.path.now classes c.as_slice.result.now e c.as_slice-2.result.now c.as_slice-3.result.now c.in_ok-accepting.accepting c.in_ok-living.living c.as_slice.ensures c.in_ok-states.ensures c.as_slice-2.ensures c.as_slice-3.ensures flags c.in_ok-living.ensures in
+    subst (λ (l : List Bool). AreWhole e.rows classes.numbers l c.in_ok-living.living) (sym flags) (is-whole c.args.path.now c.args.symbols.now classes are e.states e.rows d.found.0 d.found.1 c.in_ok-living.living d.lives)
 
 pub returns-clause-built : goal.returns-clause-built
 returns-clause-built c =
-    let classes : Classes = c.in_ok-numbers.field-0 in
-    let e : Explored = c.in_ok-states.field-0 in
-    let are : AreClasses c.args.path.now c.args.symbols.now classes = c.in_ok-numbers.ensures in
-    let f : AreFound c.args.path.now classes e = found c.args.path.now classes c.as_slice.result.now e c.as_slice.ensures c.in_ok-states.ensures in
-    let flags : c.in_ok-accepting.accepting ≡ map takes_empty e.states = c.in_ok-accepting.ensures in
-    let living : AreLiving e.rows (map takes_empty e.states) c.in_ok-living.living =
-    subst (λ (l : List Bool). AreLiving e.rows l c.in_ok-living.living) (c.as_slice-3.ensures ∙ flags)
-    (subst (λ (rows : List (List ℕ)). AreLiving rows c.as_slice-3.result.now c.in_ok-living.living) c.as_slice-2.ensures c.in_ok-living.ensures) in (
+    let classes : Classes = c.in_ok-numbers.field-0 in let are : AreClasses c.args.path.now c.args.symbols.now classes = c.in_ok-numbers.ensures in
+    let e : Explored = c.in_ok-states.field-0 in let flags : c.in_ok-accepting.accepting ≡ map takes_empty e.states = c.in_ok-accepting.ensures in
+    let d : IsDone c.args.path.now classes e c.in_ok-living.living = done c.args.path.now classes c.as_slice.result.now e c.as_slice-2.result.now c.as_slice-3.result.now c.in_ok-accepting.accepting c.in_ok-living.living c.as_slice.ensures c.in_ok-states.ensures c.as_slice-2.ensures c.as_slice-3.ensures flags c.in_ok-living.ensures in (
       e.states,
       subst (λ (l : List Bool). AreTablesOfPath c.args.path.now c.args.symbols.now (tables_of e.rows classes.numbers l c.in_ok-living.living) e.states) (sym flags)
-          (tables-are c.args.path.now c.args.symbols.now classes are e.states e.rows f.0 f.1 c.in_ok-living.living living),
-      f.0.few,
+          (tables-are c.args.path.now c.args.symbols.now classes are e.states e.rows d.found.0 d.found.1 c.in_ok-living.living d.lives),
+      d.found.0.few,
     )
 
 pub returns-clause-language : goal.returns-clause-language
 returns-clause-language c =
-    let classes : Classes = c.in_ok-numbers.field-0 in
-    let e : Explored = c.in_ok-states.field-0 in
-    let are : AreClasses c.args.path.now c.args.symbols.now classes = c.in_ok-numbers.ensures in
-    let f : AreFound c.args.path.now classes e = found c.args.path.now classes c.as_slice.result.now e c.as_slice.ensures c.in_ok-states.ensures in
-    let flags : c.in_ok-accepting.accepting ≡ map takes_empty e.states = c.in_ok-accepting.ensures in
-    let living : AreLiving e.rows (map takes_empty e.states) c.in_ok-living.living =
-    subst (λ (l : List Bool). AreLiving e.rows l c.in_ok-living.living) (c.as_slice-3.ensures ∙ flags)
-    (subst (λ (rows : List (List ℕ)). AreLiving rows c.as_slice-3.result.now c.in_ok-living.living) c.as_slice-2.ensures c.in_ok-living.ensures) in
+    let classes : Classes = c.in_ok-numbers.field-0 in let are : AreClasses c.args.path.now c.args.symbols.now classes = c.in_ok-numbers.ensures in
+    let e : Explored = c.in_ok-states.field-0 in let flags : c.in_ok-accepting.accepting ≡ map takes_empty e.states = c.in_ok-accepting.ensures in
+    let d : IsDone c.args.path.now classes e c.in_ok-living.living = done c.args.path.now classes c.as_slice.result.now e c.as_slice-2.result.now c.as_slice-3.result.now c.in_ok-accepting.accepting c.in_ok-living.living c.as_slice.ensures c.in_ok-states.ensures c.as_slice-2.ensures c.as_slice-3.ensures flags c.in_ok-living.ensures in
     subst (λ (l : List Bool). HasNoFunctionUnderNot c.args.path.now → AcceptsWordsOf c.args.symbols.now c.args.path.now (tables_of e.rows classes.numbers l c.in_ok-living.living)) (sym flags)
-    (is-automaton c.args.path.now c.args.symbols.now classes are e.states e.rows f.0 f.1 c.in_ok-living.living living)
+    (is-automaton c.args.path.now c.args.symbols.now classes are e.states e.rows d.found.0 d.found.1 c.in_ok-living.living d.lives)

@@ -9,9 +9,7 @@ use Rattle.path_automaton.proofs.forms.Forms.+grouped_cat.Goals as goal
 
 pub returns-in_ok-tail-in-Cat-clause-value : goal.returns-in_ok-tail-in-Cat-clause-value
 returns-in_ok-tail-in-Cat-clause-value t c =
-    let parts = parts-Cat _ _ _ c.node.ensures _ _ c.in-Cat.is in
-    let head = parts.0 in
-    let first = c.requires.first in
+    let parts = parts-Cat _ _ _ c.node.ensures _ _ c.in-Cat.is in let head = parts.0 in let first = c.requires.first in
     subst (λ (a : Path). IfOk c.put.result (λ form. IsFormAt c.put.new.self form a))
     (ap₂ Cat (kept c.in_ok-tail-in-Cat.ensures.grows c.in-Cat.head (omega arith)) c.in_ok-tail-in-Cat.ensures.value.1
     ∙ sym (ap (λ (a : Path). grouped_cat a (form_at c.args.self.now c.args.rest)) (is-Cat _ _ _ c.node.ensures _ _ c.in-Cat.is) ∙ grouped_cat-Cat _ _ _))

@@ -2,6 +2,7 @@
 
 ghost use Rattle.std.specs.Prelude.{◌≡◌, [], IfOk};
 ghost use Rattle.merlin_model.specs.Networks.{IsHost};
+ghost use Rattle.merlin_model.specs.Functions.{answers_of};
 ghost use Rattle.merlin_model.specs.Machine.{start};
 ghost use Rattle.merlin_model.specs.declared.network.FnDecl.{FnDecl};
 ghost use Rattle.merlin_model.specs.Packets.{Packet};
@@ -56,7 +57,7 @@ pub fn trace_plain(
     requires host { IsHost net.now host }
     requires no_process { config.now.processes ≡ [] }
     ensures trace { (answer : FnDecl → Packet → Packet) →
-        IfOk result (IsTrace net.now config.now (λ decl p q. q ≡ answer decl p) (start host packet)) }
+        IfOk result (IsTrace net.now config.now (answers_of answer) (start host packet)) }
     ensures only { IfOk result (IsOnlyTrace net.now config.now (start host packet)) }
 {
     // The network is lawful, so that each hop leads to a location.

@@ -1,6 +1,7 @@
 use Rattle.std.proofs.lemmas.List.{length-map}
 use Rattle.packet_trace.specs.declared.trace.TheConstants.{MAX_HOPS}
 use Rattle.std.proofs.Common.{◌≡◌, ◌<◌, ◌≤◌, ◌+◌, ◌∙◌, length, map, refl, ap, subst, arith, length-append}
+use Rattle.merlin_model.specs.Functions.{answers_of}
 use Rattle.merlin_model.specs.Machine.{Reaches, start}
 use Rattle.packet_trace.specs.Fitting.{frame_of, frame}
 use Rattle.packet_trace.specs.Trace.{record_of}
@@ -34,8 +35,8 @@ returns-clause-only c =
 -- whatever functions do, the only run is a run by them
 pub returns-in-Stop-clause-trace : goal.returns-in-Stop-clause-trace
 returns-in-Stop-clause-trace c = λ answer.
-    trace_by c.args.net.now c.args.config.now c.requires.no_process (λ decl p q. q ≡ answer decl p) (start c.args.host c.args.packet) c.hops.visits c.in-Stop.end (returns-in-Stop-clause-only c)
+    trace_by c.args.net.now c.args.config.now c.requires.no_process (answers_of answer) (start c.args.host c.args.packet) c.hops.visits c.in-Stop.end (returns-in-Stop-clause-only c)
 
 pub returns-clause-trace : goal.returns-clause-trace
 returns-clause-trace c = λ answer.
-    trace_by c.args.net.now c.args.config.now c.requires.no_process (λ decl p q. q ≡ answer decl p) (start c.args.host c.args.packet) c.new.result StillRunning (returns-clause-only c)
+    trace_by c.args.net.now c.args.config.now c.requires.no_process (answers_of answer) (start c.args.host c.args.packet) c.new.result StillRunning (returns-clause-only c)

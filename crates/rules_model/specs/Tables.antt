@@ -17,6 +17,7 @@ use Rattle.merlin_model.specs.declared.network.DirectedLink.{DirectedLink}
 use Rattle.merlin_model.specs.Networks.{Pairwise, Network, kind_of, IsHost, address_at, address_of, directed_links}
 use Rattle.merlin_model.specs.Words.{functions_of}
 use Rattle.merlin_model.specs.Machine.{agrees}
+use Rattle.rules_model.specs.declared.priorities.TheConstants.{TAG_PRIORITY, BACK_PRIORITY}
 use Rattle.rules_model.specs.Products.{Vertex, loc_of, function_place, Group, Follows, IsVertex, start_in, AllowsWalk, queue_in}
 
 -- What happens at the location of a vertex, given the vertices that follow up to the end.
@@ -145,7 +146,7 @@ relabel (Some n) = SetVlan n
 abbrev pub tag_rule : TableRow → Rule
 tag_rule row = record {
   loc = loc_of row.vertex;
-  priority = 100;
+  priority = TAG_PRIORITY;
   fits = record match_anything { dl_dst = Some row.eth; dl_vlan = Some (Tag row.tag) };
   actions = relabel row.hop.tag ∷ send_through row.queue (Port row.hop.link.out_port) ∷ [];
 }
@@ -153,7 +154,7 @@ tag_rule row = record {
 abbrev pub back_rule : TableRow → Rule
 back_rule row = record {
   loc = loc_of row.vertex;
-  priority = 200;
+  priority = BACK_PRIORITY;
   fits = record match_anything { in_port = Some row.hop.link.out_port; dl_dst = Some row.eth; dl_vlan = Some (Tag row.tag) };
   actions = relabel row.hop.tag ∷ send_through row.queue InPort ∷ [];
 }
@@ -291,17 +292,18 @@ module _ (net : Network) (groups : List Group) (plan : Plan) where
 
 -- Order. With it the tables are determined.
 
+-- of two triples the one comes first that has less where they differ first
+abbrev pub IsBelow : ℕ × ℕ × ℕ → ℕ × ℕ × ℕ → Type 0
+IsBelow a b = (a.0 < b.0) ⊎ ((a.0 ≡ b.0) × ((a.1 < b.1) ⊎ ((a.1 ≡ b.1) × (a.2 < b.2))))
+
 -- tags go by group, state and function
 abbrev pub IsBelowKey : TagKey → TagKey → Type 0
 IsBelowKey a b =
-    (a.group < b.group)
-    ⊎ ((a.group ≡ b.group) × ((a.state < b.state) ⊎ ((a.state ≡ b.state) × (function_place a.fun < function_place b.fun))))
+    IsBelow (a.group, a.state, function_place a.fun) (b.group, b.state, function_place b.fun)
 
 -- rows go by location, tag and destination
 abbrev pub IsBelowRow : TableRow → TableRow → Type 0
-IsBelowRow a b =
-    (loc_of a.vertex < loc_of b.vertex)
-    ⊎ ((loc_of a.vertex ≡ loc_of b.vertex) × ((a.tag < b.tag) ⊎ ((a.tag ≡ b.tag) × (a.dest < b.dest))))
+IsBelowRow a b = IsBelow (loc_of a.vertex, a.tag, a.dest) (loc_of b.vertex, b.tag, b.dest)
 
 -- the tag is that of a vertex of a product, at no host
 pub record IsTagKey (net : Network) (groups : List Group) (key : TagKey) : Type 0 where

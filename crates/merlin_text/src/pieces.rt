@@ -2,13 +2,13 @@
 ghost use Rattle.std.specs.Prelude.{◌≡◌, ◌≢◌, ◌<◌, ◌≤◌, ◌↔◌, ℕ, List, [], ◌∷◌, ◌++◌, All, length, take, drop, slice_index, IsTrue, IfSome, IfNone, Some, codes};
 ghost use Rattle.merlin_base.specs.Lexemes.{IsLetter, IsDigit, IsDecimal};
 ghost use Rattle.merlin_text.specs.Tokens.{EndsBefore, IsBlank, IsMacAt, BeginsNoMac, BeginsNoPiece, IsLexeme, IsPrefix, sort_of, verbal, numeral, spelling, written};
-ghost use Rattle.merlin_text.specs.declared.token.Kind.{Kind};
-ghost use Rattle.merlin_text.specs.declared.token.Kind.TheVariants as kinds;
+ghost use Rattle.merlin_text.specs.declared.token.TokenKind.{TokenKind};
+ghost use Rattle.merlin_text.specs.declared.token.TokenKind.TheVariants as kinds;
 ghost use Rattle.merlin_text.specs.declared.token.Word.{Word};
 ghost use Rattle.merlin_text.specs.declared.token.Sign.{Sign};
-ghost use Rattle.merlin_text.specs.Fronts.{GoesOn, IsFront};
+ghost use Rattle.merlin_text.specs.Fronts.{IsByteOf, IsFront};
 
-use crate::{Kind, Sign, Word};
+use crate::{Sign, TokenKind, Word};
 use merlin_base::{
     ip_value, is_digit, is_letter, is_name, is_name_byte, mac_value, rate_value, read_decimal,
     split_at_byte,
@@ -27,7 +27,7 @@ enum Run {
 #[derive(Clone, Copy)]
 pub struct Front {
     pub length: usize,
-    pub kind: Option<Kind>,
+    pub kind: Option<TokenKind>,
 }
 
 fn is_blank(byte: u8) -> bool
@@ -37,7 +37,7 @@ fn is_blank(byte: u8) -> bool
 }
 
 fn goes_on(run: Run, byte: u8) -> bool
-    ensures { IsTrue result ↔ GoesOn run byte }
+    ensures { IsTrue result ↔ IsByteOf run byte }
 {
     match run {
         Run::Comment => byte != b'\n',
@@ -52,8 +52,8 @@ fn goes_on(run: Run, byte: u8) -> bool
 // How many bytes go on together from the first.
 fn run_length(text: &[u8], run: Run) -> usize
     ensures within { result ≤ length text.now }
-    ensures each { All (GoesOn run) (take result text.now) }
-    ensures longest { EndsBefore (GoesOn run) (drop result text.now) }
+    ensures each { All (IsByteOf run) (take result text.now) }
+    ensures longest { EndsBefore (IsByteOf run) (drop result text.now) }
 {
     for (length, byte) in text.iter().enumerate() {
         if !goes_on(run, *byte) {
@@ -64,7 +64,7 @@ fn run_length(text: &[u8], run: Run) -> usize
 }
 
 fn ends_before(rest: &[u8], run: Run) -> bool
-    ensures { IsTrue result ↔ EndsBefore (GoesOn run) rest.now }
+    ensures { IsTrue result ↔ EndsBefore (IsByteOf run) rest.now }
 {
     match rest {
         [] => true,
@@ -123,15 +123,15 @@ fn word_of(text: &[u8]) -> Option<Word>
 }
 
 // What a run of name bytes is.
-fn verbal_kind(text: &[u8]) -> Option<Kind>
+fn verbal_kind(text: &[u8]) -> Option<TokenKind>
     ensures some { IfSome result (λ kind. IsLexeme (Some kind) text.now ×
         (sort_of (Some kind) ≡ verbal)) }
-    ensures none { IfNone result ((kind : Kind) → sort_of (Some kind) ≡ verbal →
+    ensures none { IfNone result ((kind : TokenKind) → sort_of (Some kind) ≡ verbal →
         IsLexeme (Some kind) text.now → ⊥) }
 {
     match word_of(text) {
-        Some(word) => Some(Kind::Word(word)),
-        None if is_name(text) => Some(Kind::Name),
+        Some(word) => Some(TokenKind::Word(word)),
+        None if is_name(text) => Some(TokenKind::Name),
         None => None,
     }
 }
@@ -172,20 +172,20 @@ fn prefix_value(text: &[u8]) -> Option<(u32, u8)>
 }
 
 // What a run that begins with a digit is.
-fn numeral_kind(text: &[u8]) -> Option<Kind>
+fn numeral_kind(text: &[u8]) -> Option<TokenKind>
     ensures some { IfSome result (λ kind. IsLexeme (Some kind) text.now ×
         (sort_of (Some kind) ≡ numeral)) }
-    ensures none { IfNone result ((kind : Kind) → sort_of (Some kind) ≡ numeral →
+    ensures none { IfNone result ((kind : TokenKind) → sort_of (Some kind) ≡ numeral →
         IsLexeme (Some kind) text.now → ⊥) }
 {
     if let Some(number) = small_number(text) {
-        Some(Kind::Number(number))
+        Some(TokenKind::Number(number))
     } else if let Some(rate) = rate_value(text) {
-        Some(Kind::Rate(rate))
+        Some(TokenKind::Rate(rate))
     } else if let Some(ip) = ip_value(text) {
-        Some(Kind::Ip(ip))
+        Some(TokenKind::Ip(ip))
     } else if let Some((value, length)) = prefix_value(text) {
-        Some(Kind::Prefix { value, length })
+        Some(TokenKind::Prefix { value, length })
     } else {
         None
     }
@@ -301,7 +301,7 @@ pub fn front_of(text: &[u8]) -> Option<Front>
     if let Some(mac) = front_mac(text) {
         return Some(Front {
             length: MAC_LENGTH,
-            kind: Some(Kind::Mac(mac)),
+            kind: Some(TokenKind::Mac(mac)),
         });
     }
     let first = text[0];
@@ -323,7 +323,7 @@ pub fn front_of(text: &[u8]) -> Option<Front>
         let sign = front_sign(text)?;
         Some(Front {
             length: sign_length(sign),
-            kind: Some(Kind::Sign(sign)),
+            kind: Some(TokenKind::Sign(sign)),
         })
     }
 }

@@ -13,7 +13,7 @@ pub struct Span {
 }
 
 /// A word of the language.
-#[derive(Clone, Copy)]
+#[derive(Clone, Copy, PartialEq, Eq)]
 pub enum Word {
     True,
     False,
@@ -29,7 +29,7 @@ pub enum Word {
 }
 
 /// A sign of the language.
-#[derive(Clone, Copy)]
+#[derive(Clone, Copy, PartialEq, Eq)]
 pub enum Sign {
     /// `:=`
     Becomes,
@@ -69,7 +69,7 @@ pub enum Sign {
 
 /// What a token is, with its value.
 #[derive(Clone, Copy)]
-pub enum Kind {
+pub enum TokenKind {
     /// A name, whose text is the token's slice.
     Name,
     /// A word of the language, which is no name.
@@ -91,7 +91,7 @@ pub enum Kind {
 /// One token of a text.
 #[derive(Clone, Copy)]
 pub struct Token {
-    pub kind: Kind,
+    pub kind: TokenKind,
     pub span: Span,
 }
 

@@ -5,15 +5,16 @@ ghost use Rattle.merlin_model.specs.declared.policy.Pred.{Pred, Test as Tests};
 ghost use Rattle.merlin_model.specs.declared.policy.Test.{Test};
 ghost use Rattle.merlin_model.specs.declared.policy.Test.TheVariants.{Port};
 ghost use Rattle.merlin_text.specs.declared.token.Sign.TheVariants as signs;
+ghost use Rattle.policy_grammar.specs.declared.limits.TheConstants.{MAX_NESTING};
 ghost use Rattle.policy_grammar.specs.Lexemes.{lexeme};
 ghost use Rattle.policy_grammar.specs.Predicates.{test_of, block_test as test_of_block, all_of, any_of};
-ghost use Rattle.policy_grammar.specs.Machine.{Awaited, this_sign, literal as literal_awaited, lits, conjs, whole_pred, bracket, second, value_of, is_first as is_first_name, field_at, put, opens, at};
+ghost use Rattle.policy_grammar.specs.Machine.{Awaited, this_sign, literal as literal_awaited, lits, conjs, whole_pred, bracket, second, value_of, is_first as is_first_name, field_at, put, opens, awaiting};
 ghost use Rattle.policy_parser.specs.Goes.{Reads, IsSyntax, pred_awaited};
 
 use crate::fault::ReadError;
 use crate::signs::{sign_at, text};
 use merlin_model::policy::{Field, Pred, Test};
-use merlin_text::{Cursor, Kind, Sign, Token, Word};
+use merlin_text::{Cursor, Sign, Token, TokenKind, Word};
 use policy_grammar::written::Tested;
 use sqlite_items::{Boxed, Items};
 use std::alloc::Global;
@@ -88,36 +89,36 @@ fn test_with(field: Tested, value: Token) -> Option<Test>
     ensures { (bytes : List ℕ) → result ≡ test_of field (lexeme bytes value) }
 {
     match (field, value.kind) {
-        (Tested::EthSrc, Kind::Mac(value)) => Some(Test::Is {
+        (Tested::EthSrc, TokenKind::Mac(value)) => Some(Test::Is {
             field: Field::EthSrc,
             value,
         }),
-        (Tested::EthDst, Kind::Mac(value)) => Some(Test::Is {
+        (Tested::EthDst, TokenKind::Mac(value)) => Some(Test::Is {
             field: Field::EthDst,
             value,
         }),
-        (Tested::IpSrc, Kind::Ip(ip)) => Some(Test::Is {
+        (Tested::IpSrc, TokenKind::Ip(ip)) => Some(Test::Is {
             field: Field::IpSrc,
             value: ip as u64,
         }),
-        (Tested::IpDst, Kind::Ip(ip)) => Some(Test::Is {
+        (Tested::IpDst, TokenKind::Ip(ip)) => Some(Test::Is {
             field: Field::IpDst,
             value: ip as u64,
         }),
-        (Tested::IpSrc, Kind::Prefix { value, length }) => {
+        (Tested::IpSrc, TokenKind::Prefix { value, length }) => {
             Some(block_test(Field::IpSrc, value, length))
         }
-        (Tested::IpDst, Kind::Prefix { value, length }) => {
+        (Tested::IpDst, TokenKind::Prefix { value, length }) => {
             Some(block_test(Field::IpDst, value, length))
         }
-        (Tested::IpProto, Kind::Number(n)) if 1 <= n && n <= 255 => Some(Test::Is {
+        (Tested::IpProto, TokenKind::Number(n)) if 1 <= n && n <= 255 => Some(Test::Is {
             field: Field::Proto,
             value: n as u64,
         }),
-        (Tested::TcpSrc, Kind::Number(n)) => port_test(6, Field::Sport, n),
-        (Tested::TcpDst, Kind::Number(n)) => port_test(6, Field::Dport, n),
-        (Tested::UdpSrc, Kind::Number(n)) => port_test(17, Field::Sport, n),
-        (Tested::UdpDst, Kind::Number(n)) => port_test(17, Field::Dport, n),
+        (Tested::TcpSrc, TokenKind::Number(n)) => port_test(6, Field::Sport, n),
+        (Tested::TcpDst, TokenKind::Number(n)) => port_test(6, Field::Dport, n),
+        (Tested::UdpSrc, TokenKind::Number(n)) => port_test(17, Field::Sport, n),
+        (Tested::UdpDst, TokenKind::Number(n)) => port_test(17, Field::Dport, n),
         _ => None,
     }
 }
@@ -129,8 +130,8 @@ fn field_part<'a>(
     tokens: Cursor<'a>,
 ) -> Result<(Tested, Cursor<'a>), ReadError>
     ensures goes { (k : List Awaited) (n : ℕ) →
-        Reads bytes.now tokens.entry result (at (second first.now ∷ k) n)
-        (λ r. r.1) (λ r. at (this_sign signs.Equals ∷ value_of r.0 ∷ k) n) }
+        Reads bytes.now tokens.entry result (awaiting (second first.now ∷ k) n)
+        (λ r. r.1) (λ r. awaiting (this_sign signs.Equals ∷ value_of r.0 ∷ k) n) }
     ensures shorter { IfOk result (λ r. length r.1 < length tokens.entry) }
     ensures no_memory { IfErr result IsSyntax }
 {
@@ -138,7 +139,7 @@ fn field_part<'a>(
         return Err(ReadError::Syntax(0));
     };
     match second.kind {
-        Kind::Name => match field_of(first, text(bytes, second.span)) {
+        TokenKind::Name => match field_of(first, text(bytes, second.span)) {
             Some(field) => Ok((field, rest)),
             None => Err(ReadError::Syntax(tokens.len())),
         },
@@ -148,8 +149,8 @@ fn field_part<'a>(
 
 fn value_part<'a>(field: Tested, tokens: Cursor<'a>) -> Result<(Test, Cursor<'a>), ReadError>
     ensures goes { (bytes : List ℕ) (k : List Awaited) (n : ℕ) →
-        Reads bytes tokens.entry result (at (value_of field ∷ k) n)
-        (λ r. r.1) (λ r. at (put (Tests r.0) k) n) }
+        Reads bytes tokens.entry result (awaiting (value_of field ∷ k) n)
+        (λ r. r.1) (λ r. awaiting (put (Tests r.0) k) n) }
     ensures shorter { IfOk result (λ r. length r.1 < length tokens.entry) }
     ensures no_memory { IfErr result IsSyntax }
 {
@@ -169,8 +170,8 @@ fn test_after<'a>(
     tokens: Cursor<'a>,
 ) -> Result<(Test, Cursor<'a>), ReadError>
     ensures goes { (k : List Awaited) (n : ℕ) →
-        Reads bytes.now tokens.entry result (at (this_sign signs.Dot ∷ second first.now ∷ k) n)
-        (λ r. r.1) (λ r. at (put (Tests r.0) k) n) }
+        Reads bytes.now tokens.entry result (awaiting (this_sign signs.Dot ∷ second first.now ∷ k) n)
+        (λ r. r.1) (λ r. awaiting (put (Tests r.0) k) n) }
     ensures shorter { IfOk result (λ r. length r.1 < length tokens.entry) }
     ensures no_memory { IfErr result IsSyntax }
 {
@@ -207,8 +208,8 @@ fn any(mut parts: Items<Pred>) -> Pred
 /// What follows the bracket that closes a predicate.
 fn after_bracket<'a>(tokens: Cursor<'a>) -> Result<Cursor<'a>, ReadError>
     ensures goes { (bytes : List ℕ) (pred : Pred) (k : List Awaited) (n : ℕ) →
-        Reads bytes tokens.entry result (at (whole_pred pred ∷ bracket ∷ k) n)
-        (λ r. r) (λ r. at (put pred k) n) }
+        Reads bytes tokens.entry result (awaiting (whole_pred pred ∷ bracket ∷ k) n)
+        (λ r. r) (λ r. awaiting (put pred k) n) }
     ensures shorter { IfOk result (λ r. length r < length tokens.entry) }
     ensures no_memory { IfErr result IsSyntax }
 {
@@ -216,7 +217,7 @@ fn after_bracket<'a>(tokens: Cursor<'a>) -> Result<Cursor<'a>, ReadError>
         return Err(ReadError::Syntax(0));
     };
     match first.kind {
-        Kind::Sign(Sign::CloseGroup) => Ok(rest),
+        TokenKind::Sign(Sign::CloseGroup) => Ok(rest),
         _ => Err(ReadError::Syntax(tokens.len())),
     }
 }
@@ -231,26 +232,26 @@ fn literal<'a>(
     room: usize,
     left: usize,
 ) -> Result<(Pred, Cursor<'a>, usize), ReadError>
-    ensures goes { (k : List Awaited) → opens k + room ≡ 128 →
-        Reads bytes.now tokens.entry result (at (literal_awaited ∷ k) left)
-        (λ r. r.1) (λ r. at (put r.0 k) r.2) }
+    ensures goes { (k : List Awaited) → opens k + room ≡ MAX_NESTING →
+        Reads bytes.now tokens.entry result (awaiting (literal_awaited ∷ k) left)
+        (λ r. r.1) (λ r. awaiting (put r.0 k) r.2) }
     ensures shorter { IfOk result (λ r. length r.1 < length tokens.entry) }
 {
     let Some((first, rest)) = tokens.split_first() else {
         return Err(ReadError::Syntax(0));
     };
     match first.kind {
-        Kind::Sign(Sign::Bang) if 0 < room => {
+        TokenKind::Sign(Sign::Bang) if 0 < room => {
             let (pred, rest, left) = literal(alloc, bytes, rest, room - 1, left)?;
             Ok((Pred::Not(Boxed::new(alloc, pred)?), rest, left))
         }
-        Kind::Sign(Sign::OpenGroup) if 0 < room => {
+        TokenKind::Sign(Sign::OpenGroup) if 0 < room => {
             let (pred, rest, left) = predicate(alloc, bytes, rest, room - 1, left)?;
             Ok((pred, after_bracket(rest)?, left))
         }
-        Kind::Word(Word::True) => Ok((Pred::Yes, rest, left)),
-        Kind::Word(Word::False) => Ok((Pred::No, rest, left)),
-        Kind::Name if 0 < left && is_first(text(bytes, first.span)) => {
+        TokenKind::Word(Word::True) => Ok((Pred::Yes, rest, left)),
+        TokenKind::Word(Word::False) => Ok((Pred::No, rest, left)),
+        TokenKind::Name if 0 < left && is_first(text(bytes, first.span)) => {
             let (test, rest) = test_after(text(bytes, first.span), bytes, rest)?;
             Ok((Pred::Test(test), rest, left - 1))
         }
@@ -267,10 +268,10 @@ fn conjunction<'a>(
     room: usize,
     left: usize,
 ) -> Result<(Pred, Cursor<'a>, usize), ReadError>
-    ensures goes { (k : List Awaited) (ps : List Pred) → opens k + room ≡ 128 →
+    ensures goes { (k : List Awaited) (ps : List Pred) → opens k + room ≡ MAX_NESTING →
         Reads bytes.now tokens.entry result
-        (at (literal_awaited ∷ lits [] ∷ conjs ps ∷ k) left)
-        (λ r. r.1) (λ r. at (conjs (ps ++ r.0 ∷ []) ∷ k) r.2) }
+        (awaiting (literal_awaited ∷ lits [] ∷ conjs ps ∷ k) left)
+        (λ r. r.1) (λ r. awaiting (conjs (ps ++ r.0 ∷ []) ∷ k) r.2) }
     ensures shorter { IfOk result (λ r. length r.1 < length tokens.entry) }
 {
     let mut parts = Items::new(alloc);
@@ -279,7 +280,7 @@ fn conjunction<'a>(
     'literals: while let Some(
         (
             Token {
-                kind: Kind::Word(Word::And),
+                kind: TokenKind::Word(Word::And),
                 ..
             },
             others,
@@ -303,9 +304,9 @@ pub(crate) fn predicate<'a>(
     room: usize,
     left: usize,
 ) -> Result<(Pred, Cursor<'a>, usize), ReadError>
-    ensures goes { (k : List Awaited) → opens k + room ≡ 128 →
-        Reads bytes.now tokens.entry result (at (pred_awaited k) left)
-        (λ r. r.1) (λ r. at (whole_pred r.0 ∷ k) r.2) }
+    ensures goes { (k : List Awaited) → opens k + room ≡ MAX_NESTING →
+        Reads bytes.now tokens.entry result (awaiting (pred_awaited k) left)
+        (λ r. r.1) (λ r. awaiting (whole_pred r.0 ∷ k) r.2) }
     ensures shorter { IfOk result (λ r. length r.1 < length tokens.entry) }
 {
     let mut parts = Items::new(alloc);
@@ -314,7 +315,7 @@ pub(crate) fn predicate<'a>(
     'conjunctions: while let Some(
         (
             Token {
-                kind: Kind::Word(Word::Or),
+                kind: TokenKind::Word(Word::Or),
                 ..
             },
             others,

@@ -1,4 +1,4 @@
--- The numbers of Macs and Ips are below 2^48 and 2^32.
+-- The numbers of Ethernet and IPv4 addresses are below 2^48 and 2^32.
 use Rattle.std.proofs.Common.{◌≡◌, ◌<◌, ◌^◌, ℕ, List, [], ◌∷◌, length, sym, subst, arith}
 use Rattle.std.specs.List.{AllByRecursion}
 use Rattle.merlin_base.specs.Lexemes.{IsHexDigit, IsHexPair, IsOctet, AreJoined, of_octets, IsMac, IsIp}

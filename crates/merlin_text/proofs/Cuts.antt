@@ -7,7 +7,7 @@ use Rattle.std.proofs.lemmas.List.{append_cancel_left, take-append-drop, drop-dr
 use Rattle.std.proofs.Common.{get_or, length-drop}
 use Rattle.merlin_text.specs.Fronts.{IsFront}
 use Rattle.std.proofs.Math.Seq.{take-append_seam, drop-append_seam}
-use Rattle.merlin_text.specs.declared.token.TokenKind.{TokenKind}
+use Rattle.merlin_text.specs.declared.token.Kind.{Kind}
 use Rattle.merlin_text.specs.declared.token.Token.{Token}
 use Rattle.merlin_text.specs.declared.token.TokenFault.{TokenFault}
 use Rattle.merlin_text.specs.declared.token.TokenFault.TheVariants as faults
@@ -37,7 +37,7 @@ text_of-push : (ps : List Piece) (p : Piece) → text_of (ps ++ p ∷ []) ≡ te
 text_of-push [] p = append-nil p.1
 text_of-push (q ∷ ps) p = ap (λ (t : List ℕ). q.1 ++ t) (text_of-push ps p) ∙ sym (append_assoc q.1 (text_of ps) p.1)
 
-ArePieces-push : (ps : List Piece) (kind : Option TokenKind) (piece rest : List ℕ) → ArePieces ps (piece ++ rest) → IsPiece kind piece rest → ArePieces (ps ++ (kind, piece) ∷ []) rest
+ArePieces-push : (ps : List Piece) (kind : Option Kind) (piece rest : List ℕ) → ArePieces ps (piece ++ rest) → IsPiece kind piece rest → ArePieces (ps ++ (kind, piece) ∷ []) rest
 ArePieces-push [] kind piece rest ps p = (p, tt)
 ArePieces-push ((j, v) ∷ qs) kind piece rest ps p = (
   subst (IsPiece j v) (sym (ap (λ (t : List ℕ). t ++ rest) (text_of-push qs (kind, piece)) ∙ append_assoc (text_of qs) piece rest)) ps.0,
@@ -50,7 +50,7 @@ at_none at = omega arith
 at_more : (at : ℕ) (v w : List ℕ) → at + length v + length w ≡ at + length (v ++ w)
 at_more at v w = omega (arith, length-append v w)
 
-tokens_of-push : (at : ℕ) (ps : List Piece) (kind : Option TokenKind) (piece : List ℕ)
+tokens_of-push : (at : ℕ) (ps : List Piece) (kind : Option Kind) (piece : List ℕ)
     → tokens_of at (ps ++ (kind, piece) ∷ []) ≡ tokens_of at ps ++ token_at kind (at + length (text_of ps)) (at + length (text_of ps) + length piece)
 tokens_of-push at [] kind piece = append-nil (token_at kind at (at + length piece)) ∙ sym (ap (λ (n : ℕ). token_at kind n (n + length piece)) (at_none at))
 tokens_of-push at ((j, v) ∷ ps) kind piece =
@@ -59,7 +59,7 @@ tokens_of-push at ((j, v) ∷ ps) kind piece =
     ∙ ap (λ (n : ℕ). (token_at j at (at + length v) ++ tokens_of (at + length v) ps) ++ token_at kind n (n + length piece)) (at_more at v (text_of ps))
 
 -- one more piece is cut off the rest
-pub cut_more : (text rest more : List ℕ) (ts : List Token) (at : ℕ) (kind : Option TokenKind) (piece : List ℕ)
+pub cut_more : (text rest more : List ℕ) (ts : List Token) (at : ℕ) (kind : Option Kind) (piece : List ℕ)
     → IsCut text rest ts → at + length rest ≡ length text → rest ≡ piece ++ more → IsPiece kind piece more → IsCut text more (ts ++ token_at kind at (at + length piece))
 cut_more text rest more ts at kind piece c place split p =
     let begun : 0 + length (text_of c.pieces) ≡ at = omega (arith, ap length c.whole, length-append (text_of c.pieces) rest) in
@@ -73,7 +73,7 @@ cut_more text rest more ts at kind piece c place split p =
     }
 
 -- a piece and the slices after it
-slice_of : (text front : List ℕ) (from : ℕ) (kind : Option TokenKind) (piece : List ℕ) (ps : List Piece) (rest : List ℕ) → text ≡ (front ++ piece) ++ (text_of ps ++ rest) → 0 < length piece → from ≤ length front
+slice_of : (text front : List ℕ) (from : ℕ) (kind : Option Kind) (piece : List ℕ) (ps : List Piece) (rest : List ℕ) → text ≡ (front ++ piece) ++ (text_of ps ++ rest) → 0 < length piece → from ≤ length front
     → IsLexeme kind piece → length (front ++ piece) ≡ length front + length piece
     → AreSlices text (length front + length piece) (tokens_of (length front + length piece) ps)
     → AreSlices text from (tokens_of (length front + length piece) ps)
@@ -127,7 +127,7 @@ pub tokens_once : (text : List ℕ) (ts us : List Token) → AreTokens text ts �
 tokens_once text ts us p q = (cut_once text [] [] ts us p q none_at_end none_at_end).0
 
 -- the front piece is cut off
-pub scan_more : (text : List ℕ) (ts : List Token) (at n : ℕ) (kind : Option TokenKind) → at ≤ length text → IsCut text (drop at text) ts → IsFront (drop at text) n kind → IsCut text (drop (at + n) text) (ts ++ token_at kind at (at + n))
+pub scan_more : (text : List ℕ) (ts : List Token) (at n : ℕ) (kind : Option Kind) → at ≤ length text → IsCut text (drop at text) ts → IsFront (drop at text) n kind → IsCut text (drop (at + n) text) (ts ++ token_at kind at (at + n))
 scan_more text ts at n kind within c f =
     let front = take n (drop at text) in
     let split : drop at text ≡ front ++ drop (at + n) text = sym (take-append-drop n (drop at text)) ∙ ap (λ (t : List ℕ). front ++ t) (drop-drop n at text) in
@@ -135,7 +135,7 @@ scan_more text ts at n kind within c f =
     subst (λ (k : ℕ). IsCut text (drop (at + n) text) (ts ++ token_at kind at (at + k))) count
     (cut_more text (drop at text) (drop (at + n) text) ts at kind front c (simp length-drop (omega arith)) split (subst (IsPiece kind front) (drop-drop n at text) f.piece))
 
-pub scan_within : (text : List ℕ) (at n : ℕ) (kind : Option TokenKind) → at ≤ length text → IsFront (drop at text) n kind → at + n ≤ length text
+pub scan_within : (text : List ℕ) (at n : ℕ) (kind : Option Kind) → at ≤ length text → IsFront (drop at text) n kind → at + n ≤ length text
 scan_within text at n kind within f = omega (arith, f.within, length-drop at text)
 
 -- the place where no piece begins

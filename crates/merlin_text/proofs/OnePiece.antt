@@ -5,8 +5,8 @@ use Rattle.std.specs.Str.{bytes_eq}
 use Rattle.std.proofs.Math.Seq.{take-append_seam}
 use Rattle.merlin_base.specs.Lexemes.{IsNameByte, IsLetter, IsDigit, IsName, IsMac, is_word}
 use Rattle.merlin_base.proofs.Unique.{IsDecimal-one, IsMac-one, IsIp-one, IsRate-one, IsMac-length, decimal_no_ip, decimal_no_rate, rate_no_ip}
-use Rattle.merlin_text.specs.declared.token.TokenKind.{TokenKind}
-use Rattle.merlin_text.specs.declared.token.TokenKind.TheVariants as kinds
+use Rattle.merlin_text.specs.declared.token.Kind.{Kind}
+use Rattle.merlin_text.specs.declared.token.Kind.TheVariants as kinds
 use Rattle.merlin_text.specs.declared.token.Word.{Word}
 use Rattle.merlin_text.specs.declared.token.Word.TheVariants as words
 use Rattle.merlin_text.specs.declared.token.Sign.{Sign}
@@ -97,7 +97,7 @@ sign_start signs.Dot = other_low 46 (omega arith) (omega arith) (λ e. omega ari
 sign_start signs.Bar = other_top 124 (omega arith)
 
 -- a piece begins with a byte of its sort, but for a Mac
-start_of : (kind : Option TokenKind) (text rest : List ℕ) → sort_of kind ≢ mac → IsPiece kind text rest → BeginsWith (Starts (sort_of kind)) text
+start_of : (kind : Option Kind) (text rest : List ℕ) → sort_of kind ≢ mac → IsPiece kind text rest → BeginsWith (Starts (sort_of kind)) text
 start_of None text rest ne p = elim p.goes_to [
   | inl blank ↦ subst (BeginsWith (Starts gap)) (sym blank.1) (inl blank.2)
   | inr comment ↦ weaker (λ c. c ≡ 35) (Starts gap) text (λ c e. inr e) comment.first
@@ -112,7 +112,7 @@ start_of (Some (kinds.Mac _)) text rest ne p = absurd (ne refl)
 start_of (Some (kinds.Sign s)) text rest ne p = subst (BeginsWith IsOther) (sym p.lexeme) (sign_start s)
 
 -- the sort of a piece of a text that begins with no Mac and with a byte of this sort
-pub sort_at : (f : Sort) (text : List ℕ) → BeginsNoMac text → BeginsWith (Starts f) text → (kind : Option TokenKind) (piece rest : List ℕ) → text ≡ piece ++ rest → IsPiece kind piece rest → sort_of kind ≡ f
+pub sort_at : (f : Sort) (text : List ℕ) → BeginsNoMac text → BeginsWith (Starts f) text → (kind : Option Kind) (piece rest : List ℕ) → text ≡ piece ++ rest → IsPiece kind piece rest → sort_of kind ≡ f
 sort_at f text no_mac starts (Some (kinds.Mac n)) piece rest e p = absurd (no_mac piece rest n e (record { is = p.lexeme; ends = p.goes_to }))
 sort_at f text no_mac starts kind piece rest e p =
     let both = heads (Starts f) (Starts (sort_of kind)) text piece rest starts (start_of kind piece rest (λ m. cc) p) e in
@@ -153,7 +153,7 @@ one_word v w text p q =
     let both : Some v ≡ Some w = sym (word_is v).0 ∙ ap word_at (sym p ∙ q) ∙ (word_is w).0 in
     cc
 
-no_gap : (kind : TokenKind) → gap ≡ sort_of (Some kind) → ⊥
+no_gap : (kind : Kind) → gap ≡ sort_of (Some kind) → ⊥
 no_gap kinds.Name e = cc
 no_gap (kinds.Word _) e = cc
 no_gap (kinds.Number _) e = cc
@@ -164,7 +164,7 @@ no_gap (kinds.Prefix _ _) e = cc
 no_gap (kinds.Sign _) e = cc
 
 -- Pieces of one text and one sort are of one kind.
-one_kind : (j k : Option TokenKind) (text : List ℕ) → sort_of j ≡ sort_of k → IsLexeme j text → IsLexeme k text → j ≡ k
+one_kind : (j k : Option Kind) (text : List ℕ) → sort_of j ≡ sort_of k → IsLexeme j text → IsLexeme k text → j ≡ k
 one_kind None None text same p q = refl
 one_kind (Some kinds.Name) (Some kinds.Name) text same p q = refl
 one_kind (Some kinds.Name) (Some (kinds.Word w)) text same p q = absurd (no_name w text q p)
@@ -218,7 +218,7 @@ one_text numeral v r w s m n p q e = one_run IsDigit IsRunByte v r w s p q e
 one_text mac v r w s m n p q e = absurd (m refl)
 one_text sign v r w s m n p q e = absurd (n refl)
 
-pub one_piece : (j k : Option TokenKind) (v r w s : List ℕ) → IsPiece j v r → IsPiece k w s → v ++ r ≡ w ++ s → (v ≡ w) × (j ≡ k)
+pub one_piece : (j k : Option Kind) (v r w s : List ℕ) → IsPiece j v r → IsPiece k w s → v ++ r ≡ w ++ s → (v ≡ w) × (j ≡ k)
 one_piece (Some (kinds.Mac n)) (Some (kinds.Mac m)) v r w s p q e =
     let texts : v ≡ w = same_length v r w s (IsMac-length v n p.lexeme ∙ sym (IsMac-length w m q.lexeme)) e in
     (texts, ap (λ x. Some (kinds.Mac x)) (IsMac-one w n m (subst (λ t. IsMac t n) texts p.lexeme) q.lexeme))
@@ -235,6 +235,6 @@ one_piece j k v r w s p q e =
     let texts : v ≡ w = one_text (sort_of j) v r w s (λ m. cc) (λ m. cc) p.goes_to (subst (λ f. IsExtent f w s) same q.goes_to) e in
     (texts, one_kind j k w (sym same) (subst (IsLexeme j) texts p.lexeme) q.lexeme)
 
-pub piece_some : (kind : Option TokenKind) (piece rest : List ℕ) → IsPiece kind piece rest → 0 < length piece
+pub piece_some : (kind : Option Kind) (piece rest : List ℕ) → IsPiece kind piece rest → 0 < length piece
 piece_some (Some (kinds.Mac n)) piece rest p = omega (arith, IsMac-length piece n p.lexeme)
 piece_some kind piece rest p = begins_some (Starts (sort_of kind)) piece (start_of kind piece rest (λ m. cc) p)

@@ -4,7 +4,7 @@ use Rattle.std.specs.Prelude.{Option, Some, None}
 use mathlib.Core.Logic.{∥∥₁_elim, ∥∥₁_map}
 use Rattle.std.proofs.lemmas.List.{take-append-drop, drop-drop, length-take-le, take_rest}
 use Rattle.std.proofs.Math.Seq.{drop-append_seam}
-use Rattle.merlin_text.specs.declared.token.TokenKind.{TokenKind}
+use Rattle.merlin_text.specs.declared.token.Kind.{Kind}
 use Rattle.merlin_text.specs.declared.token.Token.{Token}
 use Rattle.merlin_text.specs.Tokens.{Piece, text_of, ArePieces, token_at, tokens_of, IsCut, AreTokens, BeginsNoPiece, StopsAt}
 use Rattle.merlin_text.specs.Rest.{IsCutFrom, AreRest, Rest, tokens_are_a_set}
@@ -33,12 +33,12 @@ pub rest_at_start : (text : List ℕ) (ts : List Token) → AreTokens text ts �
 rest_at_start text ts c = are_rest text 0 ts ∣ from_start text ts c ∣₁
 
 -- what is left after the piece at the front
-record Later (text : List ℕ) (at n : ℕ) (kind : Option TokenKind) (ts : List Token) : Type 0 where
+record Later (text : List ℕ) (at n : ℕ) (kind : Option Kind) (ts : List Token) : Type 0 where
   others : List Token
   split : ts ≡ token_at kind at (at + n) ++ others
   cut : IsCutFrom text (at + n) others
 
-later_pieces : (text : List ℕ) (at n : ℕ) (kind : Option TokenKind) (ts : List Token) (ps : List Piece) → at ≤ length text → drop at text ≡ text_of ps → ArePieces ps [] → tokens_of at ps ≡ ts
+later_pieces : (text : List ℕ) (at n : ℕ) (kind : Option Kind) (ts : List Token) (ps : List Piece) → at ≤ length text → drop at text ≡ text_of ps → ArePieces ps [] → tokens_of at ps ≡ ts
     → IsFront (drop at text) n kind → Later text at n kind ts
 later_pieces text at n kind ts [] within whole lawful lexemes f = absurd (omega (arith, f.some, f.within, ap length whole))
 later_pieces text at n kind ts ((k, w) ∷ ps) within whole lawful lexemes f =
@@ -48,7 +48,7 @@ later_pieces text at n kind ts ((k, w) ∷ ps) within whole lawful lexemes f =
     let count : n ≡ length w = sym (length-take-le n (drop at text) f.within) ∙ ap length one.0 in
     record {
       others = tokens_of (at + n) ps;
-      split = sym lexemes ∙ ap (λ (m : ℕ). token_at k at (at + m) ++ tokens_of (at + m) ps) (sym count) ∙ ap (λ (j : Option TokenKind). token_at j at (at + n) ++ tokens_of (at + n) ps) (sym one.1);
+      split = sym lexemes ∙ ap (λ (m : ℕ). token_at k at (at + m) ++ tokens_of (at + m) ps) (sym count) ∙ ap (λ (j : Option Kind). token_at j at (at + n) ++ tokens_of (at + n) ps) (sym one.1);
       cut = record {
         pieces = ps;
         within = scan_within text at n kind within f;
@@ -58,35 +58,35 @@ later_pieces text at n kind ts ((k, w) ∷ ps) within whole lawful lexemes f =
       };
     }
 
-later : (text : List ℕ) (at n : ℕ) (kind : Option TokenKind) (ts : List Token) → IsCutFrom text at ts → IsFront (drop at text) n kind → Later text at n kind ts
+later : (text : List ℕ) (at n : ℕ) (kind : Option Kind) (ts : List Token) → IsCutFrom text at ts → IsFront (drop at text) n kind → Later text at n kind ts
 later text at n kind ts c f = later_pieces text at n kind ts c.pieces c.within c.whole c.lawful c.lexemes f
 
 -- The text from a place on, as code slices it, begins with this piece.
-abbrev Stands : List ℕ → ℕ → ℕ → Option TokenKind → Type 0
+abbrev Stands : List ℕ → ℕ → ℕ → Option Kind → Type 0
 Stands text at n kind = IsFront (take (length text - at) (drop at text)) n kind
 
-stands : (text : List ℕ) (at n : ℕ) (kind other : Option TokenKind) → Stands text at n kind → kind ≡ other → IsFront (drop at text) n other
+stands : (text : List ℕ) (at n : ℕ) (kind other : Option Kind) → Stands text at n kind → kind ≡ other → IsFront (drop at text) n other
 stands text at n kind other f e = subst (IsFront (drop at text) n) e (subst (λ (t : List ℕ). IsFront t n kind) (take_rest text at) f)
 
 -- a gap has no token
-pub after_gap : (text : List ℕ) (at n : ℕ) (kind : Option TokenKind) (ts : List Token) → ∥ IsCutFrom text at ts ∥₁ → Stands text at n kind → kind ≡ None → ∥ IsCutFrom text (at + n) ts ∥₁
+pub after_gap : (text : List ℕ) (at n : ℕ) (kind : Option Kind) (ts : List Token) → ∥ IsCutFrom text at ts ∥₁ → Stands text at n kind → kind ≡ None → ∥ IsCutFrom text (at + n) ts ∥₁
 after_gap text at n kind ts t f e = ∥∥₁_map t (λ c. let l = later text at n None ts c (stands text at n kind None f e) in subst (IsCutFrom text (at + n)) (sym l.split) l.cut)
 
-abbrev here : TokenKind → ℕ → ℕ → Token
+abbrev here : Kind → ℕ → ℕ → Token
 here kind start end = record { kind = kind; span = record { start = start; end = end } }
 
-pub first_token : (text : List ℕ) (at n : ℕ) (kind : Option TokenKind) (k : TokenKind) (ts : List Token) → ∥ IsCutFrom text at ts ∥₁ → Stands text at n kind → kind ≡ Some k → ts ≡ here k at (at + n) ∷ drop 1 ts
+pub first_token : (text : List ℕ) (at n : ℕ) (kind : Option Kind) (k : Kind) (ts : List Token) → ∥ IsCutFrom text at ts ∥₁ → Stands text at n kind → kind ≡ Some k → ts ≡ here k at (at + n) ∷ drop 1 ts
 first_token text at n kind k ts t f e = ∥∥₁_elim t (tokens_are_a_set ts (here k at (at + n) ∷ drop 1 ts)) (λ c.
     let l = later text at n (Some k) ts c (stands text at n kind (Some k) f e) in
     l.split ∙ ap (λ (us : List Token). here k at (at + n) ∷ us) (sym (ap (drop 1) l.split)))
 
-pub after_token : (text : List ℕ) (at n : ℕ) (kind : Option TokenKind) (k : TokenKind) (ts : List Token) → ∥ IsCutFrom text at ts ∥₁ → Stands text at n kind → kind ≡ Some k → AreRest text (at + n) (drop 1 ts)
+pub after_token : (text : List ℕ) (at n : ℕ) (kind : Option Kind) (k : Kind) (ts : List Token) → ∥ IsCutFrom text at ts ∥₁ → Stands text at n kind → kind ≡ Some k → AreRest text (at + n) (drop 1 ts)
 after_token text at n kind k ts t f e = are_rest text (at + n) (drop 1 ts) (∥∥₁_map t (λ c.
     let l = later text at n (Some k) ts c (stands text at n kind (Some k) f e) in
     subst (IsCutFrom text (at + n)) (sym (ap (drop 1) l.split)) l.cut))
 
 -- whatever the tokens after it are called
-pub first_before : (text : List ℕ) (at n : ℕ) (kind : Option TokenKind) (k : TokenKind) (ts others : List Token) → AreRest text (at + n) others → ∥ IsCutFrom text at ts ∥₁ → Stands text at n kind → kind ≡ Some k → ts ≡ here k at (at + n) ∷ others
+pub first_before : (text : List ℕ) (at n : ℕ) (kind : Option Kind) (k : Kind) (ts others : List Token) → AreRest text (at + n) others → ∥ IsCutFrom text at ts ∥₁ → Stands text at n kind → kind ≡ Some k → ts ≡ here k at (at + n) ∷ others
 first_before text at n kind k ts others are t f e = ∥∥₁_elim t (tokens_are_a_set ts (here k at (at + n) ∷ others)) (λ c.
     let l = later text at n (Some k) ts c (stands text at n kind (Some k) f e) in
     l.split ∙ ap (λ (us : List Token). here k at (at + n) ∷ us) (are.1 l.others l.cut))
@@ -122,16 +122,16 @@ pub record Scanned (text : List ℕ) (at found : ℕ) : Type 0 where
 pub nothing_scanned : (text : List ℕ) → Scanned text 0 0
 nothing_scanned text = record { tokens = []; within = omega arith; cut = record { pieces = []; whole = refl; lawful = tt; lexemes = refl }; counted = refl; bounded = omega arith }
 
-count_more : (found at n : ℕ) (kind : Option TokenKind) (ts : List Token) → found ≡ length ts → found + length (token_at kind 0 0) ≡ length (ts ++ token_at kind at (at + n))
+count_more : (found at n : ℕ) (kind : Option Kind) (ts : List Token) → found ≡ length ts → found + length (token_at kind 0 0) ≡ length (ts ++ token_at kind at (at + n))
 count_more found at n None ts e = omega (arith, e, ap length (append-nil ts))
 count_more found at n (Some k) ts e = omega (arith, e, length-append ts (token_at (Some k) at (at + n)))
 
-bound_more : (found at n : ℕ) (kind : Option TokenKind) → found ≤ at → 0 < n → found + length (token_at kind 0 0) ≤ at + n
+bound_more : (found at n : ℕ) (kind : Option Kind) → found ≤ at → 0 < n → found + length (token_at kind 0 0) ≤ at + n
 bound_more found at n None le some = omega arith
 bound_more found at n (Some k) le some = omega arith
 
 -- one more piece is scanned
-pub more_scanned : (text : List ℕ) (at found n count : ℕ) (kind : Option TokenKind) → Scanned text at found → Stands text at n kind → count ≡ length (token_at kind 0 0) → Scanned text (at + n) (found + count)
+pub more_scanned : (text : List ℕ) (at found n count : ℕ) (kind : Option Kind) → Scanned text at found → Stands text at n kind → count ≡ length (token_at kind 0 0) → Scanned text (at + n) (found + count)
 more_scanned text at found n count kind s f e =
     let front = stands text at n kind kind f refl in
     record {

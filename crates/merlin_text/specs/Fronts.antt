@@ -3,7 +3,7 @@ use Rattle.std.specs.Prelude.{◌≡◌, ◌≢◌, ◌⊎◌, ◌<◌, ◌≤�
 use Rattle.merlin_base.specs.Lexemes.{IsNameByte}
 use Rattle.merlin_text.specs.declared.pieces.Run.{Run}
 use Rattle.merlin_text.specs.declared.pieces.Run.TheVariants as runs
-use Rattle.merlin_text.specs.declared.token.TokenKind.{TokenKind}
+use Rattle.merlin_text.specs.declared.token.Kind.{Kind}
 use Rattle.merlin_text.specs.Tokens.{IsPiece, IsRunByte}
 
 -- the bytes of each sort of run
@@ -14,7 +14,7 @@ IsByteOf runs.Digits c = IsRunByte c
 IsByteOf runs.Mac c = IsNameByte c ⊎ (c ≡ 58)
 
 -- The first bytes of the text, so many, are a piece of this kind.
-pub record IsFront (text : List ℕ) (length' : ℕ) (kind : Option TokenKind) : Type 0 where
+pub record IsFront (text : List ℕ) (length' : ℕ) (kind : Option Kind) : Type 0 where
   pub some : 0 < length'
   pub within : length' ≤ length text
   pub piece : IsPiece kind (take length' text) (drop length' text)

@@ -3,8 +3,8 @@ use Rattle.std.specs.Prelude.{if◌then◌else◌, ℕ, ◌+◌, ◌≤◌, ⊤,
 use Rattle.merlin_base.specs.Lexemes.{IsName, IsDecimal, IsRate, IsMac, IsIp}
 use Rattle.merlin_model.specs.declared.policy.Bound.{Bound}
 use Rattle.merlin_model.specs.declared.policy.Bound.TheVariants.{Max, Min}
-use Rattle.merlin_text.specs.declared.token.TokenKind.{TokenKind}
-use Rattle.merlin_text.specs.declared.token.TokenKind.TheVariants as kinds
+use Rattle.merlin_text.specs.declared.token.Kind.{Kind}
+use Rattle.merlin_text.specs.declared.token.Kind.TheVariants as kinds
 use Rattle.merlin_text.specs.declared.token.Word.{Word}
 use Rattle.merlin_text.specs.declared.token.Word.TheVariants as words
 use Rattle.merlin_text.specs.declared.token.Sign.{Sign}
@@ -53,7 +53,7 @@ abbrev pub lexemes : List ℕ → List Token → List Lexeme
 lexemes bytes tokens = map (lexeme bytes) tokens
 
 -- the lexeme of a piece, by its kind, its text and its place; a blank or a comment has none
-abbrev pub lexeme_at : Option TokenKind → List ℕ → ℕ → List Lexeme
+abbrev pub lexeme_at : Option Kind → List ℕ → ℕ → List Lexeme
 lexeme_at None text place = []
 lexeme_at (Some kinds.Name) text place = name text place ∷ []
 lexeme_at (Some (kinds.Word w)) text place = word w ∷ []

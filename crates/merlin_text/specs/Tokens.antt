@@ -1,8 +1,8 @@
 -- Policy text and its tokens: the text is cut into blanks, comments and lexemes, one after another.
 use Rattle.std.specs.Prelude.{◌≡◌, ◌≢◌, ◌⊎◌, ◌+◌, ◌<◌, ◌≤◌, ℕ, List, [], ◌∷◌, ◌++◌, length, All, codes, Option, None, Some, slice_range, ⊤}
 use Rattle.merlin_base.specs.Lexemes.{IsLetter, IsDigit, IsNameByte, IsName, IsDecimal, IsMac, IsIp, IsRate}
-use Rattle.merlin_text.specs.declared.token.TokenKind.{TokenKind}
-use Rattle.merlin_text.specs.declared.token.TokenKind.TheVariants as kinds
+use Rattle.merlin_text.specs.declared.token.Kind.{Kind}
+use Rattle.merlin_text.specs.declared.token.Kind.TheVariants as kinds
 use Rattle.merlin_text.specs.declared.token.Word.{Word}
 use Rattle.merlin_text.specs.declared.token.Word.TheVariants as words
 use Rattle.merlin_text.specs.declared.token.Sign.{Sign}
@@ -96,7 +96,7 @@ BeginsNoMac text = (mac rest : List ℕ) (n : ℕ) → text ≡ mac ++ rest → 
 
 -- The kind of a piece of text; blanks and comments have none.
 -- What the text of a lexeme is, by its kind:
-abbrev pub IsLexeme : Option TokenKind → List ℕ → Type 0
+abbrev pub IsLexeme : Option Kind → List ℕ → Type 0
 IsLexeme None text = ⊤
 IsLexeme (Some kinds.Name) text = IsName text
 IsLexeme (Some (kinds.Word word)) text = text ≡ spelling word
@@ -115,7 +115,7 @@ pub data Sort : Type 0 where
   mac : Sort
   sign : Sort
 
-abbrev pub sort_of : Option TokenKind → Sort
+abbrev pub sort_of : Option Kind → Sort
 sort_of None = gap
 sort_of (Some kinds.Name) = verbal
 sort_of (Some (kinds.Word _)) = verbal
@@ -140,14 +140,14 @@ GivesWay mac text = ⊤
 GivesWay sort text = BeginsNoMac text
 
 -- a piece of this kind, and what follows it
-pub record IsPiece (kind : Option TokenKind) (text rest : List ℕ) : Type 0 where
+pub record IsPiece (kind : Option Kind) (text rest : List ℕ) : Type 0 where
   pub lexeme : IsLexeme kind text
   pub goes_to : IsExtent (sort_of kind) text rest
   pub mac_first : GivesWay (sort_of kind) (text ++ rest)
 
 -- a piece, by its kind and its text
 abbrev pub Piece : Type 0
-Piece = Option TokenKind × List ℕ
+Piece = Option Kind × List ℕ
 
 abbrev pub text_of : List Piece → List ℕ
 text_of [] = []
@@ -159,7 +159,7 @@ ArePieces [] rest = ⊤
 ArePieces (p ∷ ps) rest = IsPiece p.0 p.1 (text_of ps ++ rest) × ArePieces ps rest
 
 -- the token of a piece that is a lexeme, by its place
-abbrev pub token_at : Option TokenKind → ℕ → ℕ → List Token
+abbrev pub token_at : Option Kind → ℕ → ℕ → List Token
 token_at None start end = []
 token_at (Some kind) start end = record { kind = kind; span = record { start = start; end = end } } ∷ []
 
@@ -180,7 +180,7 @@ abbrev pub AreTokens : List ℕ → List Token → Type 0
 AreTokens text tokens = IsCut text [] tokens
 
 abbrev pub BeginsNoPiece : List ℕ → Type 0
-BeginsNoPiece text = (kind : Option TokenKind) (piece rest : List ℕ) → text ≡ piece ++ rest → IsPiece kind piece rest → ⊥
+BeginsNoPiece text = (kind : Option Kind) (piece rest : List ℕ) → text ≡ piece ++ rest → IsPiece kind piece rest → ⊥
 
 -- The text is cut into pieces up to a byte with which none begins.
 pub record StopsAt (text : List ℕ) (at byte : ℕ) : Type 0 where

@@ -6,7 +6,7 @@ ghost use Rattle.merlin_text.specs.Tokens.{AreTokens, IsTokenFault, StopsAt, tok
 ghost use Rattle.merlin_text.specs.Rest.{Rest, Rest-prop};
 
 use crate::pieces::front_of;
-use crate::{Span, Token, TokenFault, TokenKind};
+use crate::{Kind, Span, Token, TokenFault};
 use std::marker::Model;
 
 /// The tokens of a text from a place on. They are found as they are asked for, so that none is kept.
@@ -79,7 +79,7 @@ fn fault_of(byte: u8, at: usize) -> TokenFault
 }
 
 // How many tokens a piece is: one or none.
-fn count_of(kind: Option<TokenKind>) -> usize
+fn count_of(kind: Option<Kind>) -> usize
     ensures { result ≡ length (token_at kind 0 0) }
 {
     match kind {

@@ -4,7 +4,7 @@ ghost use Rattle.merlin_text.specs.Lexemes.{lexeme, lexemes, token_text};
 ghost use Rattle.merlin_text.specs.ReadLexemes.{as_lexeme};
 
 use crate::cursor::Cursor;
-use crate::{Sign, Token, TokenKind, Word};
+use crate::{Kind, Sign, Token, Word};
 use std::marker::Model;
 
 /// A lexeme of a text.
@@ -75,14 +75,14 @@ fn lexeme_of(text: &[u8], token: Token) -> Lexeme<'_>
     ensures { as_lexeme result ≡ lexeme text.now token }
 {
     match token.kind {
-        TokenKind::Name => Lexeme::Name(text_of(text, token), token.span.start),
-        TokenKind::Word(word) => Lexeme::Word(word),
-        TokenKind::Number(number) => Lexeme::Number(number),
-        TokenKind::Rate(rate) => Lexeme::Rate(rate),
-        TokenKind::Mac(mac) => Lexeme::Mac(mac),
-        TokenKind::Ip(ip) => Lexeme::Ip(ip),
-        TokenKind::Prefix { value, length } => Lexeme::Prefix { value, length },
-        TokenKind::Sign(sign) => Lexeme::Sign(sign),
+        Kind::Name => Lexeme::Name(text_of(text, token), token.span.start),
+        Kind::Word(word) => Lexeme::Word(word),
+        Kind::Number(number) => Lexeme::Number(number),
+        Kind::Rate(rate) => Lexeme::Rate(rate),
+        Kind::Mac(mac) => Lexeme::Mac(mac),
+        Kind::Ip(ip) => Lexeme::Ip(ip),
+        Kind::Prefix { value, length } => Lexeme::Prefix { value, length },
+        Kind::Sign(sign) => Lexeme::Sign(sign),
     }
 }
 

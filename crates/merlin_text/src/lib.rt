@@ -9,5 +9,5 @@ mod whole;
 
 pub use cursor::{Cursor, scan};
 pub use lexeme::{Lexeme, Lexemes};
-pub use token::{Sign, Span, Token, TokenFault, TokenKind, Word};
+pub use token::{Kind, Sign, Span, Token, TokenFault, Word};
 pub use whole::tokens;

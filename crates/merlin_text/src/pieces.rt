@@ -2,13 +2,13 @@
 ghost use Rattle.std.specs.Prelude.{◌≡◌, ◌≢◌, ◌<◌, ◌≤◌, ◌↔◌, ℕ, List, [], ◌∷◌, ◌++◌, All, length, take, drop, slice_index, IsTrue, IfSome, IfNone, Some, codes};
 ghost use Rattle.merlin_base.specs.Lexemes.{IsLetter, IsDigit, IsDecimal};
 ghost use Rattle.merlin_text.specs.Tokens.{EndsBefore, IsBlank, IsMacAt, BeginsNoMac, BeginsNoPiece, IsLexeme, IsPrefix, sort_of, verbal, numeral, spelling, written};
-ghost use Rattle.merlin_text.specs.declared.token.TokenKind.{TokenKind};
-ghost use Rattle.merlin_text.specs.declared.token.TokenKind.TheVariants as kinds;
+ghost use Rattle.merlin_text.specs.declared.token.Kind.{Kind};
+ghost use Rattle.merlin_text.specs.declared.token.Kind.TheVariants as kinds;
 ghost use Rattle.merlin_text.specs.declared.token.Word.{Word};
 ghost use Rattle.merlin_text.specs.declared.token.Sign.{Sign};
 ghost use Rattle.merlin_text.specs.Fronts.{IsByteOf, IsFront};
 
-use crate::{Sign, TokenKind, Word};
+use crate::{Kind, Sign, Word};
 use merlin_base::{
     ip_value, is_digit, is_letter, is_name, is_name_byte, mac_value, rate_value, read_decimal,
     split_at_byte,
@@ -27,7 +27,7 @@ enum Run {
 #[derive(Clone, Copy)]
 pub struct Front {
     pub length: usize,
-    pub kind: Option<TokenKind>,
+    pub kind: Option<Kind>,
 }
 
 fn is_blank(byte: u8) -> bool
@@ -123,15 +123,15 @@ fn word_of(text: &[u8]) -> Option<Word>
 }
 
 // What a run of name bytes is.
-fn verbal_kind(text: &[u8]) -> Option<TokenKind>
+fn verbal_kind(text: &[u8]) -> Option<Kind>
     ensures some { IfSome result (λ kind. IsLexeme (Some kind) text.now ×
         (sort_of (Some kind) ≡ verbal)) }
-    ensures none { IfNone result ((kind : TokenKind) → sort_of (Some kind) ≡ verbal →
+    ensures none { IfNone result ((kind : Kind) → sort_of (Some kind) ≡ verbal →
         IsLexeme (Some kind) text.now → ⊥) }
 {
     match word_of(text) {
-        Some(word) => Some(TokenKind::Word(word)),
-        None if is_name(text) => Some(TokenKind::Name),
+        Some(word) => Some(Kind::Word(word)),
+        None if is_name(text) => Some(Kind::Name),
         None => None,
     }
 }
@@ -172,20 +172,20 @@ fn prefix_value(text: &[u8]) -> Option<(u32, u8)>
 }
 
 // What a run that begins with a digit is.
-fn numeral_kind(text: &[u8]) -> Option<TokenKind>
+fn numeral_kind(text: &[u8]) -> Option<Kind>
     ensures some { IfSome result (λ kind. IsLexeme (Some kind) text.now ×
         (sort_of (Some kind) ≡ numeral)) }
-    ensures none { IfNone result ((kind : TokenKind) → sort_of (Some kind) ≡ numeral →
+    ensures none { IfNone result ((kind : Kind) → sort_of (Some kind) ≡ numeral →
         IsLexeme (Some kind) text.now → ⊥) }
 {
     if let Some(number) = small_number(text) {
-        Some(TokenKind::Number(number))
+        Some(Kind::Number(number))
     } else if let Some(rate) = rate_value(text) {
-        Some(TokenKind::Rate(rate))
+        Some(Kind::Rate(rate))
     } else if let Some(ip) = ip_value(text) {
-        Some(TokenKind::Ip(ip))
+        Some(Kind::Ip(ip))
     } else if let Some((value, length)) = prefix_value(text) {
-        Some(TokenKind::Prefix { value, length })
+        Some(Kind::Prefix { value, length })
     } else {
         None
     }
@@ -301,7 +301,7 @@ pub fn front_of(text: &[u8]) -> Option<Front>
     if let Some(mac) = front_mac(text) {
         return Some(Front {
             length: MAC_LENGTH,
-            kind: Some(TokenKind::Mac(mac)),
+            kind: Some(Kind::Mac(mac)),
         });
     }
     let first = text[0];
@@ -323,7 +323,7 @@ pub fn front_of(text: &[u8]) -> Option<Front>
         let sign = front_sign(text)?;
         Some(Front {
             length: sign_length(sign),
-            kind: Some(TokenKind::Sign(sign)),
+            kind: Some(Kind::Sign(sign)),
         })
     }
 }

@@ -69,7 +69,7 @@ pub enum Sign {
 
 /// What a token is, with its value.
 #[derive(Clone, Copy)]
-pub enum TokenKind {
+pub enum Kind {
     /// A name, whose text is the token's slice.
     Name,
     /// A word of the language, which is no name.
@@ -91,7 +91,7 @@ pub enum TokenKind {
 /// One token of a text.
 #[derive(Clone, Copy)]
 pub struct Token {
-    pub kind: TokenKind,
+    pub kind: Kind,
     pub span: Span,
 }
 

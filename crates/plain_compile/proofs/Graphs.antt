@@ -2,7 +2,7 @@
 use Rattle.std.proofs.Common.{◌≡◌, ◌≢◌, ℕ, zero, suc, ◌≤◌, ◌<◌, ◌+◌, ◌⊎◌, inl, inr, ◌↔◌, Bool, true, false, nat_lt, IsTrue, Vec, List, [], ◌∷◌, ◌++◌, length, slice_index_or, slice_get, option_map, Contains, Option, None, Some, IsSome, is_some, refl, sym, ◌∙◌, ap, subst, arith}
 use Rattle.std.proofs.lemmas.Option.{slice_get-get_or, slice_get_within}
 use Rattle.std.specs.declared.alloc.Global.{Global}
-use Rattle.merlin_model.specs.declared.network.Kind.TheVariants.{Switch}
+use Rattle.merlin_model.specs.declared.network.LocationKind.TheVariants.{Switch}
 use Rattle.merlin_model.specs.declared.network.Location.{Location}
 use Rattle.merlin_model.specs.declared.network.DirectedLink.{DirectedLink}
 use Rattle.merlin_model.specs.Networks.{Network, kind_of, address_at, address_of, IsHost, IsSwitch, directed_links, back_of, IsNetwork}

@@ -1,6 +1,6 @@
 -- One step of the run, by the first token.
 use Rattle.std.proofs.Common.{◌≡◌, ℕ, List, [], ◌∷◌, ◌∙◌, ap}
-use Rattle.merlin_text.specs.declared.token.TokenKind.TheVariants as kinds
+use Rattle.merlin_text.specs.declared.token.Kind.TheVariants as kinds
 use Rattle.merlin_text.specs.declared.token.Sign.TheVariants as signs
 use Rattle.merlin_text.specs.declared.token.Token.{Token}
 use Rattle.merlin_text.specs.declared.token.Word.{Word}

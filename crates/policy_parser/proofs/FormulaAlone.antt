@@ -6,8 +6,8 @@ use Rattle.std.proofs.lemmas.List.{append_cancel_left}
 use Rattle.merlin_model.specs.declared.policy.Part.{Part}
 use Rattle.merlin_model.specs.declared.policy.Part.TheVariants.{Id, Constant}
 use Rattle.merlin_model.specs.declared.policy.Term.{Term}
-use Rattle.merlin_text.specs.declared.token.TokenKind.{TokenKind}
-use Rattle.merlin_text.specs.declared.token.TokenKind.TheVariants as kinds
+use Rattle.merlin_text.specs.declared.token.Kind.{Kind}
+use Rattle.merlin_text.specs.declared.token.Kind.TheVariants as kinds
 use Rattle.merlin_text.specs.declared.token.Sign.TheVariants as signs
 use Rattle.merlin_text.specs.declared.token.Word.TheVariants as words
 use Rattle.merlin_text.specs.Tokens.{Piece, IsPiece, ArePieces, text_of as text_of_pieces}
@@ -24,7 +24,7 @@ use Rattle.policy_parser.proofs.Formed.{AreSpelled, left, right, each_phrase, ra
 use Rattle.policy_parser.proofs.PrintedFormula.{all_placed, sign_piece, blank_piece, other_byte}
 
 -- the first three lexemes
-after_piece : (kind : Option TokenKind) (w r : List ℕ) (ps : List Piece) → IsPiece kind w r → ArePieces ps [] → text_of_pieces ps ≡ w ++ r
+after_piece : (kind : Option Kind) (w r : List ℕ) (ps : List Piece) → IsPiece kind w r → ArePieces ps [] → text_of_pieces ps ≡ w ++ r
     → (others : List Piece) × (ps ≡ (kind, w) ∷ others) × ArePieces others [] × (text_of_pieces others ≡ r)
 after_piece kind w r [] p lawful e = absurd (omega (arith, piece_some kind w r p, ap length e, length-append w r))
 after_piece kind w r ((j, v) ∷ ps) p lawful e =

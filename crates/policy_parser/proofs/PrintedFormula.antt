@@ -11,8 +11,8 @@ use Rattle.merlin_model.specs.declared.policy.Part.TheVariants.{Id, Constant}
 use Rattle.merlin_model.specs.declared.policy.Term.{Term}
 use Rattle.merlin_model.specs.Rates.{id_of_part}
 use Rattle.merlin_base.specs.Lexemes.{IsNameByte}
-use Rattle.merlin_text.specs.declared.token.TokenKind.{TokenKind}
-use Rattle.merlin_text.specs.declared.token.TokenKind.TheVariants as kinds
+use Rattle.merlin_text.specs.declared.token.Kind.{Kind}
+use Rattle.merlin_text.specs.declared.token.Kind.TheVariants as kinds
 use Rattle.merlin_text.specs.declared.token.Sign.{Sign}
 use Rattle.merlin_text.specs.declared.token.Sign.TheVariants as signs
 use Rattle.merlin_text.specs.declared.token.Word.TheVariants as words
@@ -171,7 +171,7 @@ slice_is bytes front text rest e =
     let short : (length front + length text) - length front ≡ length text = omega arith in
     rw (short, e, drop-append_seam front (text ++ rest)) (take-append_seam text rest)
 
-one_placed : (bytes front text rest : List ℕ) (kind : TokenKind) → bytes ≡ front ++ (text ++ rest)
+one_placed : (bytes front text rest : List ℕ) (kind : Kind) → bytes ≡ front ++ (text ++ rest)
     → lexeme bytes (record { kind = kind; span = record { start = length front; end = length front + length text } }) ∷ [] ≡ lexeme_at (Some kind) text (length front)
 one_placed bytes front text rest kinds.Name e =
     ap (λ t. name t (length front) ∷ [])
@@ -189,7 +189,7 @@ all_placed bytes front [] e = refl
 all_placed bytes front ((kind, text) ∷ ps) e =
     by kind (subst (λ (n : ℕ). lexemes bytes (tokens_of n ps) ≡ lexemes_in n ps) (length-append front text) (all_placed bytes (front ++ text) ps (e ∙ sym (append_assoc front text (text_of_pieces ps)))))
   where
-    by : (k : Option TokenKind) → lexemes bytes (tokens_of (length front + length text) ps) ≡ lexemes_in (length front + length text) ps → lexemes bytes (tokens_of (length front) ((k, text) ∷ ps)) ≡ lexemes_in (length front) ((k, text) ∷ ps)
+    by : (k : Option Kind) → lexemes bytes (tokens_of (length front + length text) ps) ≡ lexemes_in (length front + length text) ps → lexemes bytes (tokens_of (length front) ((k, text) ∷ ps)) ≡ lexemes_in (length front) ((k, text) ∷ ps)
     by None more = more
     by (Some k) more = let first = one_placed bytes front text (text_of_pieces ps) k e in ap (λ l. l ++ lexemes bytes (tokens_of (length front + length text) ps)) first ∙ ap (λ ls. lexeme_at (Some k) text (length front) ++ ls) more
 

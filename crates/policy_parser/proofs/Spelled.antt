@@ -4,8 +4,8 @@ use Rattle.std.specs.Prelude.{nat_le, ◌&&◌, Bool, Some, slice_range}
 use Rattle.std.specs.List.{AllByRecursion}
 use Rattle.std.proofs.lemmas.Bool.{le-leb}
 use Rattle.merlin_base.specs.Lexemes.{IsName}
-use Rattle.merlin_text.specs.declared.token.TokenKind.{TokenKind}
-use Rattle.merlin_text.specs.declared.token.TokenKind.TheVariants as kinds
+use Rattle.merlin_text.specs.declared.token.Kind.{Kind}
+use Rattle.merlin_text.specs.declared.token.Kind.TheVariants as kinds
 use Rattle.merlin_text.specs.declared.token.Span.{Span}
 use Rattle.merlin_text.specs.declared.token.Token.{Token}
 use Rattle.merlin_text.specs.Tokens.{AreTokens, AreSlices, IsLexeme}
@@ -15,7 +15,7 @@ use Rattle.policy_grammar.specs.Lexemes.{IsSpelled, lexeme, lexemes}
 both_true : (a b : Bool) → a ≡ true → b ≡ true → (a && b) ≡ true
 both_true a b p q = ap (λ x. x && b) p ∙ q
 
-spelled : (text : List ℕ) (k : TokenKind) (s : Span) → s.start < s.end → s.end ≤ length text → IsLexeme (Some k) (slice_range text s.start s.end) → IsSpelled (lexeme text (record { kind = k; span = s }))
+spelled : (text : List ℕ) (k : Kind) (s : Span) → s.start < s.end → s.end ≤ length text → IsLexeme (Some k) (slice_range text s.start s.end) → IsSpelled (lexeme text (record { kind = k; span = s }))
 spelled text kinds.Name s some within p =
     let inside : (nat_le s.start s.end && nat_le s.end (length text)) ≡ true = both_true _ _ (le-leb s.start s.end (omega arith)) (le-leb s.end (length text) within) in
     subst (λ b. IsName (cond b (slice_range text s.start s.end) [])) (sym inside) p

@@ -14,7 +14,7 @@ use crate::predicates::predicate;
 use crate::signs::{any_name_at, bound_at, name_at, rate_at, sign_at, text, word_at};
 use merlin_model::name::{Name, name_from};
 use merlin_model::policy::Pred;
-use merlin_text::{Cursor, Sign, TokenKind, Word};
+use merlin_text::{Cursor, Sign, Kind, Word};
 use policy_grammar::limits::{MAX_NESTING, MAX_PATH_NAMES, MAX_TESTS};
 use policy_grammar::written::{Item, Limit, RawPath, WrittenStatement};
 use sqlite_items::Items;
@@ -74,9 +74,9 @@ fn limits<'a>(
             return Err(ReadError::Syntax(0));
         };
         match first.kind {
-            TokenKind::Word(Word::And) => rest = after,
-            TokenKind::Sign(Sign::Semicolon) => return Ok((limits, Ending::Item, after)),
-            TokenKind::Sign(Sign::CloseList) => return Ok((limits, Ending::List, after)),
+            Kind::Word(Word::And) => rest = after,
+            Kind::Sign(Sign::Semicolon) => return Ok((limits, Ending::Item, after)),
+            Kind::Sign(Sign::CloseList) => return Ok((limits, Ending::List, after)),
             _ => return Err(ReadError::Syntax(others.len())),
         }
     }
@@ -96,9 +96,9 @@ fn statement_end<'a>(
         return Err(ReadError::Syntax(0));
     };
     match first.kind {
-        TokenKind::Word(Word::At) => limits(alloc, rest),
-        TokenKind::Sign(Sign::Semicolon) => Ok((Items::new(alloc), Ending::Item, rest)),
-        TokenKind::Sign(Sign::CloseList) => Ok((Items::new(alloc), Ending::List, rest)),
+        Kind::Word(Word::At) => limits(alloc, rest),
+        Kind::Sign(Sign::Semicolon) => Ok((Items::new(alloc), Ending::Item, rest)),
+        Kind::Sign(Sign::CloseList) => Ok((Items::new(alloc), Ending::List, rest)),
         _ => Err(ReadError::Syntax(tokens.len())),
     }
 }
@@ -120,7 +120,7 @@ fn pred_part<'a>(
         return Err(ReadError::Syntax(0));
     };
     match first.kind {
-        TokenKind::Sign(Sign::Arrow) => Ok((pred, after)),
+        Kind::Sign(Sign::Arrow) => Ok((pred, after)),
         _ => Err(ReadError::Syntax(rest.len())),
     }
 }
@@ -246,8 +246,8 @@ fn default_path<'a>(
         return Err(ReadError::Syntax(0));
     };
     match first.kind {
-        TokenKind::Sign(Sign::CloseList) => Ok((Entry::Default(path), after)),
-        TokenKind::Sign(Sign::Semicolon) => {
+        Kind::Sign(Sign::CloseList) => Ok((Entry::Default(path), after)),
+        Kind::Sign(Sign::Semicolon) => {
             let after = sign_at(Sign::CloseList, after)?;
             Ok((Entry::Default(path), after))
         }
@@ -270,10 +270,10 @@ fn entry_of<'a>(
         return Err(ReadError::Syntax(0));
     };
     match first.kind {
-        TokenKind::Name => plain(alloc, text(bytes, first.span), bytes, rest),
-        TokenKind::Word(Word::Foreach) => for_each(alloc, bytes, rest),
-        TokenKind::Word(Word::Default) => default_path(alloc, bytes, rest),
-        TokenKind::Sign(Sign::CloseList) => Ok((Entry::End, rest)),
+        Kind::Name => plain(alloc, text(bytes, first.span), bytes, rest),
+        Kind::Word(Word::Foreach) => for_each(alloc, bytes, rest),
+        Kind::Word(Word::Default) => default_path(alloc, bytes, rest),
+        Kind::Sign(Sign::CloseList) => Ok((Entry::End, rest)),
         _ => Err(ReadError::Syntax(tokens.len())),
     }
 }

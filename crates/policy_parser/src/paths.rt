@@ -11,7 +11,7 @@ ghost use Rattle.policy_parser.specs.Goes.{Reads, IsInSequence, path_awaited, be
 use crate::fault::ReadError;
 use crate::signs::text;
 use merlin_model::name::name_from;
-use merlin_text::{Cursor, Sign, Token, TokenKind};
+use merlin_text::{Cursor, Sign, Token, Kind};
 use policy_grammar::written::RawPath;
 use sqlite_items::{Boxed, Items};
 use std::alloc::Global;
@@ -29,7 +29,7 @@ fn stars<'a>(tokens: Cursor<'a>) -> (bool, Cursor<'a>)
     'stars: while let Some(
         (
             Token {
-                kind: TokenKind::Sign(Sign::Star),
+                kind: Kind::Sign(Sign::Star),
                 ..
             },
             others,
@@ -108,16 +108,16 @@ fn rep<'a>(
         return Err(ReadError::Syntax(0));
     };
     match first.kind {
-        TokenKind::Sign(Sign::Bang) if 0 < room => {
+        Kind::Sign(Sign::Bang) if 0 < room => {
             let (path, rest, left) = rep(alloc, bytes, rest, room - 1, left)?;
             Ok((RawPath::Not(Boxed::new(alloc, path)?), rest, left))
         }
-        TokenKind::Sign(Sign::OpenGroup) if 0 < room => group(alloc, bytes, rest, room - 1, left),
-        TokenKind::Sign(Sign::Dot) => {
+        Kind::Sign(Sign::OpenGroup) if 0 < room => group(alloc, bytes, rest, room - 1, left),
+        Kind::Sign(Sign::Dot) => {
             let (path, rest) = with_stars(alloc, RawPath::Dot, rest)?;
             Ok((path, rest, left - 1))
         }
-        TokenKind::Name => {
+        Kind::Name => {
             let name = name_from(alloc, text(bytes, first.span))?;
             let at = first.span.start;
             let (path, rest) = with_stars(alloc, RawPath::Named { name, at }, rest)?;
@@ -147,7 +147,7 @@ fn group<'a>(
         return Err(ReadError::Syntax(0));
     };
     match first.kind {
-        TokenKind::Sign(Sign::CloseGroup) => {
+        Kind::Sign(Sign::CloseGroup) => {
             let (path, rest) = with_stars(alloc, path, after)?;
             Ok((path, rest, left))
         }
@@ -161,7 +161,7 @@ fn begins_rep(tokens: &Cursor<'_>) -> bool
     match tokens.split_first() {
         Some((first, _rest)) => matches!(
             first.kind,
-            TokenKind::Name | TokenKind::Sign(Sign::Bang | Sign::OpenGroup | Sign::Dot)
+            Kind::Name | Kind::Sign(Sign::Bang | Sign::OpenGroup | Sign::Dot)
         ),
         None => false,
     }
@@ -217,7 +217,7 @@ pub(crate) fn path_of<'a>(
             return Ok((alt(parts), rest, spare));
         };
         match first.kind {
-            TokenKind::Sign(Sign::Bar) if 0 < spare => {
+            Kind::Sign(Sign::Bar) if 0 < spare => {
                 let (path, others, fewer) = sequence(alloc, bytes, after, room, spare)?;
                 parts.push(path)?;
                 rest = others;

@@ -14,7 +14,7 @@ ghost use Rattle.policy_parser.specs.Goes.{Reads, IsSyntax, pred_awaited};
 use crate::fault::ReadError;
 use crate::signs::{sign_at, text};
 use merlin_model::policy::{Field, Pred, Test};
-use merlin_text::{Cursor, Sign, Token, TokenKind, Word};
+use merlin_text::{Cursor, Sign, Token, Kind, Word};
 use policy_grammar::written::Tested;
 use sqlite_items::{Boxed, Items};
 use std::alloc::Global;
@@ -89,36 +89,36 @@ fn test_with(field: Tested, value: Token) -> Option<Test>
     ensures { (bytes : List ℕ) → result ≡ test_of field (lexeme bytes value) }
 {
     match (field, value.kind) {
-        (Tested::EthSrc, TokenKind::Mac(value)) => Some(Test::Is {
+        (Tested::EthSrc, Kind::Mac(value)) => Some(Test::Is {
             field: Field::EthSrc,
             value,
         }),
-        (Tested::EthDst, TokenKind::Mac(value)) => Some(Test::Is {
+        (Tested::EthDst, Kind::Mac(value)) => Some(Test::Is {
             field: Field::EthDst,
             value,
         }),
-        (Tested::IpSrc, TokenKind::Ip(ip)) => Some(Test::Is {
+        (Tested::IpSrc, Kind::Ip(ip)) => Some(Test::Is {
             field: Field::IpSrc,
             value: ip as u64,
         }),
-        (Tested::IpDst, TokenKind::Ip(ip)) => Some(Test::Is {
+        (Tested::IpDst, Kind::Ip(ip)) => Some(Test::Is {
             field: Field::IpDst,
             value: ip as u64,
         }),
-        (Tested::IpSrc, TokenKind::Prefix { value, length }) => {
+        (Tested::IpSrc, Kind::Prefix { value, length }) => {
             Some(block_test(Field::IpSrc, value, length))
         }
-        (Tested::IpDst, TokenKind::Prefix { value, length }) => {
+        (Tested::IpDst, Kind::Prefix { value, length }) => {
             Some(block_test(Field::IpDst, value, length))
         }
-        (Tested::IpProto, TokenKind::Number(n)) if 1 <= n && n <= 255 => Some(Test::Is {
+        (Tested::IpProto, Kind::Number(n)) if 1 <= n && n <= 255 => Some(Test::Is {
             field: Field::Proto,
             value: n as u64,
         }),
-        (Tested::TcpSrc, TokenKind::Number(n)) => port_test(6, Field::Sport, n),
-        (Tested::TcpDst, TokenKind::Number(n)) => port_test(6, Field::Dport, n),
-        (Tested::UdpSrc, TokenKind::Number(n)) => port_test(17, Field::Sport, n),
-        (Tested::UdpDst, TokenKind::Number(n)) => port_test(17, Field::Dport, n),
+        (Tested::TcpSrc, Kind::Number(n)) => port_test(6, Field::Sport, n),
+        (Tested::TcpDst, Kind::Number(n)) => port_test(6, Field::Dport, n),
+        (Tested::UdpSrc, Kind::Number(n)) => port_test(17, Field::Sport, n),
+        (Tested::UdpDst, Kind::Number(n)) => port_test(17, Field::Dport, n),
         _ => None,
     }
 }
@@ -139,7 +139,7 @@ fn field_part<'a>(
         return Err(ReadError::Syntax(0));
     };
     match second.kind {
-        TokenKind::Name => match field_of(first, text(bytes, second.span)) {
+        Kind::Name => match field_of(first, text(bytes, second.span)) {
             Some(field) => Ok((field, rest)),
             None => Err(ReadError::Syntax(tokens.len())),
         },
@@ -217,7 +217,7 @@ fn after_bracket<'a>(tokens: Cursor<'a>) -> Result<Cursor<'a>, ReadError>
         return Err(ReadError::Syntax(0));
     };
     match first.kind {
-        TokenKind::Sign(Sign::CloseGroup) => Ok(rest),
+        Kind::Sign(Sign::CloseGroup) => Ok(rest),
         _ => Err(ReadError::Syntax(tokens.len())),
     }
 }
@@ -241,17 +241,17 @@ fn literal<'a>(
         return Err(ReadError::Syntax(0));
     };
     match first.kind {
-        TokenKind::Sign(Sign::Bang) if 0 < room => {
+        Kind::Sign(Sign::Bang) if 0 < room => {
             let (pred, rest, left) = literal(alloc, bytes, rest, room - 1, left)?;
             Ok((Pred::Not(Boxed::new(alloc, pred)?), rest, left))
         }
-        TokenKind::Sign(Sign::OpenGroup) if 0 < room => {
+        Kind::Sign(Sign::OpenGroup) if 0 < room => {
             let (pred, rest, left) = predicate(alloc, bytes, rest, room - 1, left)?;
             Ok((pred, after_bracket(rest)?, left))
         }
-        TokenKind::Word(Word::True) => Ok((Pred::Yes, rest, left)),
-        TokenKind::Word(Word::False) => Ok((Pred::No, rest, left)),
-        TokenKind::Name if 0 < left && is_first(text(bytes, first.span)) => {
+        Kind::Word(Word::True) => Ok((Pred::Yes, rest, left)),
+        Kind::Word(Word::False) => Ok((Pred::No, rest, left)),
+        Kind::Name if 0 < left && is_first(text(bytes, first.span)) => {
             let (test, rest) = test_after(text(bytes, first.span), bytes, rest)?;
             Ok((Pred::Test(test), rest, left - 1))
         }
@@ -280,7 +280,7 @@ fn conjunction<'a>(
     'literals: while let Some(
         (
             Token {
-                kind: TokenKind::Word(Word::And),
+                kind: Kind::Word(Word::And),
                 ..
             },
             others,
@@ -315,7 +315,7 @@ pub(crate) fn predicate<'a>(
     'conjunctions: while let Some(
         (
             Token {
-                kind: TokenKind::Word(Word::Or),
+                kind: Kind::Word(Word::Or),
                 ..
             },
             others,

@@ -9,7 +9,7 @@ ghost use Rattle.policy_parser.specs.Goes.{Reads, IsSyntax, set_awaited, first_i
 use crate::fault::ReadError;
 use crate::signs::{sign_at, text};
 use merlin_model::name::name_from;
-use merlin_text::{Cursor, Sign, Token, TokenKind};
+use merlin_text::{Cursor, Sign, Token, Kind};
 use policy_grammar::written::{Literal, WrittenSet};
 use sqlite_items::Items;
 use std::alloc::Global;
@@ -27,8 +27,8 @@ fn literal_at<'a>(tokens: Cursor<'a>) -> Result<(Literal, Cursor<'a>), ReadError
         return Err(ReadError::Syntax(0));
     };
     match first.kind {
-        TokenKind::Mac(mac) => Ok((Literal::Mac(mac), rest)),
-        TokenKind::Ip(ip) => Ok((Literal::Ip(ip), rest)),
+        Kind::Mac(mac) => Ok((Literal::Mac(mac), rest)),
+        Kind::Ip(ip) => Ok((Literal::Ip(ip), rest)),
         _ => Err(ReadError::Syntax(tokens.len())),
     }
 }
@@ -47,7 +47,7 @@ fn literals<'a>(
     if let Some(
         (
             Token {
-                kind: TokenKind::Sign(Sign::CloseSet),
+                kind: Kind::Sign(Sign::CloseSet),
                 ..
             },
             rest,
@@ -64,8 +64,8 @@ fn literals<'a>(
             return Err(ReadError::Syntax(0));
         };
         match first.kind {
-            TokenKind::Sign(Sign::Comma) => rest = after,
-            TokenKind::Sign(Sign::CloseSet) => return Ok((literals, after)),
+            Kind::Sign(Sign::Comma) => rest = after,
+            Kind::Sign(Sign::CloseSet) => return Ok((literals, after)),
             _ => return Err(ReadError::Syntax(others.len())),
         }
     }
@@ -102,13 +102,13 @@ pub(crate) fn sets<'a>(
             return Err(ReadError::Syntax(0));
         };
         match first.kind {
-            TokenKind::Name => {
+            Kind::Name => {
                 let name = name_from(alloc, text(bytes, first.span))?;
                 let (literals, others) = set_after(alloc, others)?;
                 sets.push(WrittenSet { name, literals })?;
                 rest = others;
             }
-            TokenKind::Sign(Sign::OpenList) => return Ok((sets, others)),
+            Kind::Sign(Sign::OpenList) => return Ok((sets, others)),
             _ => return Err(ReadError::Syntax(rest.len())),
         }
     }

@@ -11,7 +11,7 @@ ghost use Rattle.policy_parser.specs.Goes.{Reads, IsSyntax, text_in, statement_a
 use crate::fault::ReadError;
 use merlin_model::name::{Name, name_from};
 use merlin_model::policy::Bound;
-use merlin_text::{Cursor, Sign, Span, TokenKind, Word};
+use merlin_text::{Cursor, Sign, Span, Kind, Word};
 use std::alloc::Global;
 
 /// The bytes of a token; none where its ends are none of the text.
@@ -49,7 +49,7 @@ pub(crate) fn sign_at<'a>(sign: Sign, tokens: Cursor<'a>) -> Result<Cursor<'a>, 
         return Err(ReadError::Syntax(0));
     };
     match first.kind {
-        TokenKind::Sign(found) if number_of_sign(sign) == number_of_sign(found) => Ok(rest),
+        Kind::Sign(found) if number_of_sign(sign) == number_of_sign(found) => Ok(rest),
         _ => Err(ReadError::Syntax(tokens.len())),
     }
 }
@@ -66,7 +66,7 @@ pub(crate) fn word_at<'a>(word: Word, tokens: Cursor<'a>) -> Result<Cursor<'a>, 
         return Err(ReadError::Syntax(0));
     };
     match first.kind {
-        TokenKind::Word(found) if number_of_word(word) == number_of_word(found) => Ok(rest),
+        Kind::Word(found) if number_of_word(word) == number_of_word(found) => Ok(rest),
         _ => Err(ReadError::Syntax(tokens.len())),
     }
 }
@@ -83,7 +83,7 @@ pub(crate) fn any_name_at<'a>(tokens: Cursor<'a>) -> Result<Cursor<'a>, ReadErro
         return Err(ReadError::Syntax(0));
     };
     match first.kind {
-        TokenKind::Name => Ok(rest),
+        Kind::Name => Ok(rest),
         _ => Err(ReadError::Syntax(tokens.len())),
     }
 }
@@ -109,7 +109,7 @@ pub(crate) fn name_at<'a>(
         return Err(ReadError::Syntax(0));
     };
     match first.kind {
-        TokenKind::Name => Ok((name_from(alloc, text(bytes, first.span))?, rest)),
+        Kind::Name => Ok((name_from(alloc, text(bytes, first.span))?, rest)),
         _ => Err(ReadError::Syntax(tokens.len())),
     }
 }
@@ -129,8 +129,8 @@ pub(crate) fn bound_at<'a>(tokens: Cursor<'a>) -> Result<(Bound, Cursor<'a>), Re
         return Err(ReadError::Syntax(0));
     };
     match first.kind {
-        TokenKind::Word(Word::Max) => Ok((Bound::Max, rest)),
-        TokenKind::Word(Word::Min) => Ok((Bound::Min, rest)),
+        Kind::Word(Word::Max) => Ok((Bound::Max, rest)),
+        Kind::Word(Word::Min) => Ok((Bound::Min, rest)),
         _ => Err(ReadError::Syntax(tokens.len())),
     }
 }
@@ -150,7 +150,7 @@ pub(crate) fn rate_at<'a>(tokens: Cursor<'a>) -> Result<(u64, Cursor<'a>), ReadE
         return Err(ReadError::Syntax(0));
     };
     match first.kind {
-        TokenKind::Rate(rate) => Ok((rate, rest)),
+        Kind::Rate(rate) => Ok((rate, rest)),
         _ => Err(ReadError::Syntax(tokens.len())),
     }
 }

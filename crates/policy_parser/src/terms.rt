@@ -16,7 +16,7 @@ use crate::fault::ReadError;
 use crate::signs::{bound_at, rate_at, sign_at, text};
 use merlin_model::name::name_from;
 use merlin_model::policy::{Part, Term};
-use merlin_text::{Cursor, Sign, TokenKind, Word};
+use merlin_text::{Cursor, Sign, Kind, Word};
 use sqlite_items::Items;
 use std::alloc::Global;
 
@@ -38,11 +38,11 @@ fn leading_part<'a>(
             return Err(ReadError::Syntax(0));
         };
         match first.kind {
-            TokenKind::Rate(rate) => {
+            Kind::Rate(rate) => {
                 parts.push(Part::Constant(rate))?;
                 rest = sign_at(Sign::Plus, others)?;
             }
-            TokenKind::Name => {
+            Kind::Name => {
                 parts.push(Part::Id(name_from(alloc, text(bytes, first.span))?))?;
                 return Ok((parts, others));
             }
@@ -66,8 +66,8 @@ fn summand_at<'a>(
         return Err(ReadError::Syntax(0));
     };
     match first.kind {
-        TokenKind::Rate(rate) => Ok((Part::Constant(rate), rest)),
-        TokenKind::Name => Ok((Part::Id(name_from(alloc, text(bytes, first.span))?), rest)),
+        Kind::Rate(rate) => Ok((Part::Constant(rate), rest)),
+        Kind::Name => Ok((Part::Id(name_from(alloc, text(bytes, first.span))?), rest)),
         _ => Err(ReadError::Syntax(tokens.len())),
     }
 }
@@ -89,12 +89,12 @@ fn sum<'a>(
             return Err(ReadError::Syntax(0));
         };
         match first.kind {
-            TokenKind::Sign(Sign::Plus) => {
+            Kind::Sign(Sign::Plus) => {
                 let (part, others) = summand_at(alloc, bytes, others)?;
                 parts.push(part)?;
                 rest = others;
             }
-            TokenKind::Sign(Sign::Comma) => return Ok((parts, others)),
+            Kind::Sign(Sign::Comma) => return Ok((parts, others)),
             _ => return Err(ReadError::Syntax(rest.len())),
         }
     }
@@ -131,7 +131,7 @@ fn next_term<'a>(tokens: Cursor<'a>) -> Result<Option<Cursor<'a>>, ReadError>
         return Ok(None);
     };
     match first.kind {
-        TokenKind::Word(Word::And) => Ok(Some(rest)),
+        Kind::Word(Word::And) => Ok(Some(rest)),
         _ => Err(ReadError::Syntax(tokens.len())),
     }
 }
@@ -173,7 +173,7 @@ pub(crate) fn formula_of<'a>(
         return Ok(Items::new(alloc));
     };
     match first.kind {
-        TokenKind::Sign(Sign::Comma) => terms_after(alloc, bytes, rest),
+        Kind::Sign(Sign::Comma) => terms_after(alloc, bytes, rest),
         _ => Err(ReadError::Syntax(tokens.len())),
     }
 }

@@ -12,7 +12,7 @@ use Rattle.merlin_model.specs.declared.policy.Bound.TheVariants.{Max, Min}
 use Rattle.merlin_model.specs.declared.policy.Part.{Part}
 use Rattle.merlin_model.specs.declared.policy.Part.TheVariants.{Id, Constant}
 use Rattle.merlin_model.specs.declared.policy.Term.{Term}
-use Rattle.merlin_text.specs.declared.token.TokenKind.TheVariants as kinds
+use Rattle.merlin_text.specs.declared.token.Kind.TheVariants as kinds
 use Rattle.merlin_text.specs.declared.token.Word.{Word}
 use Rattle.merlin_text.specs.declared.token.Word.TheVariants as words
 use Rattle.merlin_text.specs.declared.token.Sign.{Sign}

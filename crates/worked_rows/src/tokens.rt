@@ -1,7 +1,7 @@
 //! The tokens of a policy text.
 
 use merlin_base::OutOfMemory;
-use merlin_text::{Sign, Token, TokenFault, TokenKind, Word, tokens};
+use merlin_text::{Sign, Token, TokenFault, Kind, Word, tokens};
 use std::alloc::Global;
 
 fn word_text(word: Word) -> &'static str {
@@ -45,14 +45,14 @@ fn sign_text(sign: Sign) -> &'static str {
 // Adds a token: its kind, what it stands for, and the bytes from its first to the one behind its last.
 fn add_token(out: &mut String, token: &Token) -> Result<(), OutOfMemory> {
     match token.kind {
-        TokenKind::Name => out.push_str("name")?,
-        TokenKind::Word(word) => write!(out, "word {}", word_text(word))?,
-        TokenKind::Number(number) => write!(out, "number {number}")?,
-        TokenKind::Rate(rate) => write!(out, "rate {rate}")?,
-        TokenKind::Mac(mac) => write!(out, "mac {mac}")?,
-        TokenKind::Ip(ip) => write!(out, "ip {ip}")?,
-        TokenKind::Prefix { value, length } => write!(out, "prefix {value}/{length}")?,
-        TokenKind::Sign(sign) => write!(out, "sign {}", sign_text(sign))?,
+        Kind::Name => out.push_str("name")?,
+        Kind::Word(word) => write!(out, "word {}", word_text(word))?,
+        Kind::Number(number) => write!(out, "number {number}")?,
+        Kind::Rate(rate) => write!(out, "rate {rate}")?,
+        Kind::Mac(mac) => write!(out, "mac {mac}")?,
+        Kind::Ip(ip) => write!(out, "ip {ip}")?,
+        Kind::Prefix { value, length } => write!(out, "prefix {value}/{length}")?,
+        Kind::Sign(sign) => write!(out, "sign {}", sign_text(sign))?,
     }
     let (start, end) = (token.span.start, token.span.end);
     write!(out, " {start}-{end}")?;

@@ -4,7 +4,7 @@ use Rattle.std.proofs.lemmas.Int.{ints}
 use Rattle.std.specs.List.{AllByRecursion, range_with_len}
 use Rattle.merlin_model.specs.declared.network.DirectedLink.{DirectedLink}
 use Rattle.merlin_model.specs.Programs.{is_chosen, coefficient_if}
-use Rattle.cutoff_program.specs.Flows.{Edge, Flow, Problem, Variable, variable_of, variables_from, variables_of, last_of, net_out, flow_right, flow_row, flow_rows_from, chosen_from}
+use Rattle.cutoff_program.specs.Flows.{FlowEdge, Flow, Problem, Variable, variable_of, variables_from, variables_of, last_of, net_out, flow_right, flow_row, flow_rows_from, chosen_from}
 use Rattle.cutoff_program.specs.Limits.{IsEdgeOf, IsFlow, IsProblem}
 use Rattle.cutoff_program.specs.Trails.{IsBalanced, one_at}
 use Rattle.cutoff_program.proofs.Lists.{all_both, all_left, all_right, all_map, map_all, all_any, all_so}
@@ -95,7 +95,7 @@ abbrev pub EachInsideFrom : List Variable → ℕ → List Flow → Type 0
 EachInsideFrom variables n [] = Unit {0}
 EachInsideFrom variables n (flow ∷ flows) = AllByRecursion (AreInside n (last_of flow)) variables × EachInsideFrom variables (n + 1) flows
 
-inside-more : (variables : List Variable) (n m rate : ℕ) (edges : List Edge) (flows : List Flow) → n < m → EachInsideFrom variables m flows → EachInsideFrom (map (variable_of n rate) edges ++ variables) m flows
+inside-more : (variables : List Variable) (n m rate : ℕ) (edges : List FlowEdge) (flows : List Flow) → n < m → EachInsideFrom variables m flows → EachInsideFrom (map (variable_of n rate) edges ++ variables) m flows
 inside-more variables n m rate edges [] h all = tt
 inside-more variables n m rate edges (flow ∷ flows) h all = (
   all_both (AreInside m (last_of flow)) (map (variable_of n rate) edges) variables

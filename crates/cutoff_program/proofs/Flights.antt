@@ -8,7 +8,7 @@ use Rattle.merlin_model.specs.Networks.{Network, IsNetwork, directed_links, IsHo
 use Rattle.merlin_model.specs.Words.{at, crosses, crossings}
 use Rattle.merlin_model.proofs.Members.{In, in_from, in_to, all_in, in_append, in_append-left, in_append-right, in_map, map_in}
 use Rattle.rules_model.specs.Products.{SymbolAutomaton, Vertex, loc_of, start_of, IsEdge, IsLast, LeadsToEnd, IsOnWayBetween, word_to}
-use Rattle.cutoff_program.specs.Flows.{Edge, Flow, Variable, variable_of, variables_from, rate_over, is_on}
+use Rattle.cutoff_program.specs.Flows.{FlowEdge, Flow, Variable, variable_of, variables_from, rate_over, is_on}
 use Rattle.cutoff_program.specs.Trails.{IsTrailOf, sum_along, comes_to}
 use Rattle.cutoff_program.specs.Products.{Product, IsBefore, IsJoined, IsTrimmed, place_between, loc_at, edge_of, flow_of}
 use Rattle.cutoff_program.specs.Walks.{symbol_of_vertex, word_along}
@@ -22,7 +22,7 @@ use Rattle.cutoff_program.proofs.Ways.{crossings-cons, between-more}
 
 pub record IsFlowAt (variables : List Variable) (n : ℕ) (flow : Flow) : Type 0 where
   pub only : (v : Variable) → In v variables → v.flow ≡ n → In v.edge flow.edges × (v.rate ≡ flow.rate)
-  pub each : (e : Edge) → In e flow.edges → In (variable_of n flow.rate e) variables
+  pub each : (e : FlowEdge) → In e flow.edges → In (variable_of n flow.rate e) variables
 
 abbrev pub AreFlowsAt : List Variable → ℕ → List Flow → Type 0
 AreFlowsAt variables n [] = Unit {0}
@@ -36,7 +36,7 @@ flows-above n (flow ∷ flows) v i = by (in_append (map (variable_of n flow.rate
     by (inl j) ih = let m = in_map (variable_of n flow.rate) flow.edges v j in let e : v.flow ≡ n = ap (λ w. w.flow) m.2 in omega arith
     by (inr j) ih = let h = ih j in omega arith
 
-flows-more : (n rate : ℕ) (edges : List Edge) (variables : List Variable) (m : ℕ) (flows : List Flow) → n < m → AreFlowsAt variables m flows → AreFlowsAt (map (variable_of n rate) edges ++ variables) m flows
+flows-more : (n rate : ℕ) (edges : List FlowEdge) (variables : List Variable) (m : ℕ) (flows : List Flow) → n < m → AreFlowsAt variables m flows → AreFlowsAt (map (variable_of n rate) edges ++ variables) m flows
 flows-more n rate edges variables m [] h all = tt
 flows-more n rate edges variables m (flow ∷ flows) h all = (
   record {

@@ -4,7 +4,7 @@ use Rattle.std.specs.List.{AllByRecursion}
 use Rattle.merlin_model.specs.declared.network.DirectedLink.{DirectedLink}
 use Rattle.merlin_model.specs.declared.policy.Objective.{Objective}
 use Rattle.merlin_model.specs.declared.policy.Objective.TheVariants as objective
-use Rattle.cutoff_program.specs.Flows.{Edge, Flow, Problem, Variable, variable_of, variables_from, variables_of, last_of, rate_over, is_on, cost_of_variable, length_of}
+use Rattle.cutoff_program.specs.Flows.{FlowEdge, Flow, Problem, Variable, variable_of, variables_from, variables_of, last_of, rate_over, is_on, cost_of_variable, length_of}
 use Rattle.cutoff_program.specs.Limits.{IsEdgeOf, IsFlow, IsProblem}
 use Rattle.cutoff_program.proofs.Lists.{all_both, all_map, all_so, all_any}
 
@@ -13,7 +13,7 @@ pub record IsVariable (links : List DirectedLink) (v : Variable) : Type 0 where
   pub apart : v.edge.from ≢ v.edge.to
   pub crosses : IfSome v.edge.crosses (λ l. l < length links)
 
-of_flow : (links : List DirectedLink) (n : ℕ) (flow : Flow) → flow.rate ≤ 10 ^ 9 → (edge : Edge) → IsEdgeOf links (last_of flow) edge → IsVariable links (variable_of n flow.rate edge)
+of_flow : (links : List DirectedLink) (n : ℕ) (flow : Flow) → flow.rate ≤ 10 ^ 9 → (edge : FlowEdge) → IsEdgeOf links (last_of flow) edge → IsVariable links (variable_of n flow.rate edge)
 of_flow links n flow rate edge is = record { rate = rate; apart = is.apart; crosses = is.crosses }
 
 are_from : (links : List DirectedLink) (n : ℕ) (flows : List Flow) → AllByRecursion (IsFlow links) flows → AllByRecursion (IsVariable links) (variables_from n flows)

@@ -3,7 +3,7 @@ use Rattle.std.specs.Prelude.{ℕ, zero, suc, ◌+◌, ◌-◌, ◌*◌, ◌/◌
 use Rattle.std.specs.List.{range_with_len}
 use Rattle.std.specs.Int.{int_min}
 use Rattle.merlin_model.specs.declared.network.DirectedLink.{DirectedLink}
-pub use Rattle.cutoff_program.specs.declared.flow.Edge.{Edge}
+pub use Rattle.cutoff_program.specs.declared.flow.FlowEdge.{FlowEdge}
 pub use Rattle.cutoff_program.specs.declared.flow.Flow.{Flow}
 pub use Rattle.cutoff_program.specs.declared.flow.Problem.{Problem}
 pub use Rattle.cutoff_program.specs.declared.flow.Variable.{Variable}
@@ -21,7 +21,7 @@ last_of flow = max flow.vertices 2 - 1
 
 -- The variables: one for each edge of each flow.
 
-abbrev pub variable_of : ℕ → ℕ → Edge → Variable
+abbrev pub variable_of : ℕ → ℕ → FlowEdge → Variable
 variable_of n rate edge = record { flow = n; rate = rate; edge = edge }
 
 abbrev pub variables_from : ℕ → List Flow → List Variable

@@ -2,12 +2,12 @@
 use Rattle.std.specs.Prelude.{ℕ, ◌≢◌, ◌≤◌, ◌<◌, ◌+◌, ◌^◌, List, length, IfSome, sum_by}
 use Rattle.std.specs.List.{AllByRecursion}
 use Rattle.merlin_model.specs.declared.network.DirectedLink.{DirectedLink}
-use Rattle.cutoff_program.specs.Flows.{Edge, Flow, Problem, last_of, variables_of, cost_of_variable, program_at, takes, is_below, cutoff_of}
+use Rattle.cutoff_program.specs.Flows.{FlowEdge, Flow, Problem, last_of, variables_of, cost_of_variable, program_at, takes, is_below, cutoff_of}
 use Rattle.merlin_model.specs.declared.policy.Value.{Value}
 use Rattle.merlin_model.specs.Programs.{HasCutoffs}
 
 -- an edge between two vertices, over a link if any
-pub record IsEdgeOf (links : List DirectedLink) (last : ℕ) (edge : Edge) : Type 0 where
+pub record IsEdgeOf (links : List DirectedLink) (last : ℕ) (edge : FlowEdge) : Type 0 where
   pub apart : edge.from ≢ edge.to
   pub starts : edge.from ≤ last
   pub ends : edge.to ≤ last

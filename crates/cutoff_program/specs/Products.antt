@@ -5,7 +5,7 @@ use Rattle.std.specs.List.{AllByRecursion}
 use Rattle.merlin_model.specs.Networks.{Network, directed_links, Pairwise}
 use Rattle.merlin_model.specs.Words.{at}
 use Rattle.rules_model.specs.Products.{SymbolAutomaton, Vertex, loc_of, start_of, function_place, IsEdge, IsLast, LeadsToEnd, IsOnWayBetween}
-use Rattle.cutoff_program.specs.Flows.{Edge, Flow}
+use Rattle.cutoff_program.specs.Flows.{FlowEdge, Flow}
 
 -- The vertices from the start to the end, and the edges by the places of their two vertices. Both lists are empty where no
 -- walk is allowed.
@@ -60,7 +60,7 @@ place_between net u v = position (λ directed. (directed.from == u) && (directed
 abbrev pub loc_at : List Vertex → ℕ → ℕ
 loc_at vertices k = option_map_or loc_of (slice_get vertices k) 0
 
-abbrev pub edge_of : Network → List Vertex → ℕ × ℕ → Edge
+abbrev pub edge_of : Network → List Vertex → ℕ × ℕ → FlowEdge
 edge_of net vertices e = record { from = e.0; to = e.1; crosses = place_between net (loc_at vertices e.0) (loc_at vertices e.1) }
 
 abbrev pub flow_of : Network → ℕ → Product → Flow

@@ -14,7 +14,7 @@ use Rattle.cutoff_program.specs.Products.{Product}
 use Rattle.merlin_model.specs.declared.policy.Objective.{Objective}
 use Rattle.merlin_model.specs.declared.policy.Objective.TheVariants.{Shortest}
 use Rattle.merlin_model.specs.Programs.{Program, row_at}
-use Rattle.cutoff_program.specs.Flows.{Edge, Flow, Problem}
+use Rattle.cutoff_program.specs.Flows.{FlowEdge, Flow, Problem}
 
 abbrev pub below_421 : Option Value
 below_421 = Some (Whole 421)
@@ -25,7 +25,7 @@ rights program = map (λ row. row.right) program.rows
 abbrev pub right_of_row : Program → ℕ → ℤ
 right_of_row program row = (row_at program row).right
 
-abbrev pub edge : ℕ → ℕ → ℕ → Edge
+abbrev pub edge : ℕ → ℕ → ℕ → FlowEdge
 edge from to link = record { from = from; to = to; crosses = Some link }
 
 abbrev pub over_triangle : Flow

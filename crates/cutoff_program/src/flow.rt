@@ -6,7 +6,7 @@ use sqlite_items::Items;
 
 /// An edge of a product, with the place of the link that it crosses if it leads to another location.
 #[derive(Clone, Copy)]
-pub struct Edge {
+pub struct FlowEdge {
     pub from: usize,
     pub to: usize,
     pub crosses: Option<usize>,
@@ -18,7 +18,7 @@ pub struct Edge {
 pub struct Flow {
     pub rate: u64,
     pub vertices: usize,
-    pub edges: Items<Edge>,
+    pub edges: Items<FlowEdge>,
 }
 
 /// The flows of the guaranteed statements over the links of a network.
@@ -34,5 +34,5 @@ pub struct Problem {
 pub struct Variable {
     pub flow: usize,
     pub rate: u64,
-    pub edge: Edge,
+    pub edge: FlowEdge,
 }

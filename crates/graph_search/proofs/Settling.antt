@@ -6,7 +6,7 @@ use Rattle.std.proofs.lemmas.Grind.{reverse_onto}
 use Rattle.merlin_model.proofs.Members.{in_from}
 use Rattle.graph_search.specs.declared.graph.Edge.{Edge}
 use Rattle.graph_search.specs.declared.search.Progress.{Progress}
-use Rattle.graph_search.specs.Graphs.{known_at, IsEdgePath, edge_cost, cost_of_path, GoesBack, IsReachedFrom, ArePotentials}
+use Rattle.graph_search.specs.Graphs.{known_at, IsEdgePath, edge_cost, cost_of_path, GoesBack, HasLeastCost, ArePotentials}
 use Rattle.graph_search.specs.Frontiers.{HasAlso, IsTakenOut}
 use Rattle.graph_search.specs.Departures.{IsLastToLeave}
 use Rattle.graph_search.specs.Searching.{is_settled, settled_cost, ComesBack, IsSettling, IsNearest}
@@ -209,7 +209,7 @@ module _ (n : ℕ) (edges : List Edge) (source low : ℕ) (s : Progress) (search
     unreached = λ v d. (searching.unreached v d, λ path p. let b = path-bound path source v 0 searching.start p in none-some (sym d ∙ b.1));
   }
     where
-      reached : (v cost : ℕ) → known_at s.distance v ≡ Some cost → IsReachedFrom edges s.before source v cost
+      reached : (v cost : ℕ) → known_at s.distance v ≡ Some cost → HasLeastCost edges s.before source v cost
       reached v cost d =
           let h = searching.back v cost d in
           record {

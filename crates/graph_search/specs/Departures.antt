@@ -22,3 +22,6 @@ pub record AreDepartures (n : ℕ) (edges : List Edge) (bound : ℕ) (departures
   pub last : (v : ℕ) → v < n → IsLastToLeave edges v bound (known_at departures.last v)
   pub previous : (k : ℕ) (e : Edge) → k < bound → slice_get edges k ≡ Some e →
       IsLastToLeave edges e.from k (known_at departures.previous k)
+
+abbrev pub AreAllDepartures : ℕ → List Edge → Departures → Type 0
+AreAllDepartures n edges departures = AreDepartures n edges (length edges) departures

@@ -38,7 +38,7 @@ GoesBack edges before source (k ∷ ks) v =
 
 -- Going back from v by the last edges comes to the source, along a path that costs so much, and no
 -- path from the source to v costs less.
-pub record IsReachedFrom (edges : List Edge) (before : List (Option ℕ)) (source v cost : ℕ) : Type 0 where
+pub record HasLeastCost (edges : List Edge) (before : List (Option ℕ)) (source v cost : ℕ) : Type 0 where
   pub back : List ℕ
   pub goes_back : GoesBack edges before source back v
   pub path : IsEdgePath edges source (reverse back) v
@@ -50,6 +50,6 @@ pub record IsReachedFrom (edges : List Edge) (before : List (Option ℕ)) (sourc
 pub record ArePotentials (n : ℕ) (edges : List Edge) (source : ℕ) (p : Potentials) : Type 0 where
   pub distances : length p.distance ≡ n
   pub befores : length p.before ≡ n
-  pub reached : (v cost : ℕ) → known_at p.distance v ≡ Some cost → IsReachedFrom edges p.before source v cost
+  pub reached : (v cost : ℕ) → known_at p.distance v ≡ Some cost → HasLeastCost edges p.before source v cost
   pub unreached : (v : ℕ) → known_at p.distance v ≡ None →
       (known_at p.before v ≡ None) × ((path : List ℕ) → ¬ IsEdgePath edges source path v)

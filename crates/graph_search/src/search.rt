@@ -5,7 +5,7 @@ ghost use Rattle.std.specs.Prelude.{◌≡◌, ◌<◌, ◌+◌, ◌^◌, ◌↔
 ghost use Rattle.std.specs.Prelude.{IfOk, OnOk, IsTrue, slice_get, slice_set};
 ghost use Rattle.graph_search.specs.declared.graph.Edge.{Edge};
 ghost use Rattle.graph_search.specs.Graphs.{JoinVertices, cost_of_all, known_at};
-ghost use Rattle.graph_search.specs.Departures.{AreDepartures};
+ghost use Rattle.graph_search.specs.Departures.{AreAllDepartures};
 ghost use Rattle.graph_search.specs.Searching.{IsSettling, IsNearest, IsNearestOrNone, IsEdgeFollowed};
 ghost use Rattle.graph_search.specs.Searching.{IsCheaper, WaitWithin};
 
@@ -48,7 +48,8 @@ fn begin(alloc: Global, vertices: usize, source: usize) -> Result<Progress, OutO
 fn nearest(search: &mut Progress) -> Option<(u128, usize)>
     requires { WaitWithin (length search.old.settled) search.old }
     ensures next { (n : ℕ) (edges : List Edge) (source low : ℕ) →
-        IsSettling n edges source low n 0 search.old → IsNearestOrNone n edges source result search.new }
+        IsSettling n edges source low n 0 search.old →
+        IsNearestOrNone n edges source result search.new }
     ensures settled { search.new.settled ≡ search.old.settled }
 {
     'entries: while let Some((cost, vertex)) = search.frontier.pop() {
@@ -95,7 +96,7 @@ fn settle(
 ) -> Result<(), OutOfMemory>
     requires within { JoinVertices (length search.old.settled) edges.now }
     requires costs { cost_of_all edges.now < 2 ^ 120 }
-    requires departures { AreDepartures (length search.old.settled) edges.now (length edges.now) departures.now }
+    requires departures { AreAllDepartures (length search.old.settled) edges.now departures.now }
     requires nearest { (source : ℕ) ×
         IsNearest (length search.old.settled) edges.now source cost vertex search.old }
     ensures searching { let n = length search.old.settled in
@@ -123,7 +124,7 @@ pub fn settle_all(
     requires source { source < vertices }
     requires within { JoinVertices vertices edges.now }
     requires costs { cost_of_all edges.now < 2 ^ 120 }
-    requires departures { AreDepartures vertices edges.now (length edges.now) departures.now }
+    requires departures { AreAllDepartures vertices edges.now departures.now }
     ensures { IfOk result (IsNearestOrNone vertices edges.now source None) }
 {
     let mut search = begin(alloc, vertices, source)?;

@@ -9,7 +9,7 @@ use Rattle.merlin_model.specs.declared.policy.Part.{Part}
 use Rattle.merlin_model.specs.declared.policy.Part.TheVariants.{Id, Constant}
 use Rattle.merlin_model.specs.Networks.{AreDifferent}
 use Rattle.merlin_model.specs.Rates.{id_of_part}
-use Rattle.localise.specs.Faults.{is_among, stands_before, repeats_in}
+use Rattle.localise.specs.Faults.{is_among, is_repeated_at, repeats_in}
 use Rattle.localise.proofs.Through.{here}
 
 -- the names among the second that stand among the first, or before their places
@@ -17,24 +17,24 @@ abbrev pub later : List (List ℕ) → List (List ℕ) → List (List ℕ)
 later met [] = []
 later met (name ∷ names) = cond (is_among met name) (name ∷ later (met ++ name ∷ []) names) (later (met ++ name ∷ []) names)
 
-later_are : (met names : List (List ℕ)) → map (λ n. n.1) (filter (stands_before (met ++ names)) (enumerate_from (length met) names)) ≡ later met names
+later_are : (met names : List (List ℕ)) → map (λ n. n.1) (filter (is_repeated_at (met ++ names)) (enumerate_from (length met) names)) ≡ later met names
 later_are met [] = refl
 later_are met (name ∷ names) =
     let behind = step (later_are (met ++ name ∷ []) names) in
     first (found (met ++ name ∷ names) (length met + 1)) ∙ (λ k. cond (before k) (name ∷ behind k) (behind k))
   where
     found : List (List ℕ) → ℕ → List (ℕ × List ℕ)
-    found all n = filter (stands_before all) (enumerate_from n names)
+    found all n = filter (is_repeated_at all) (enumerate_from n names)
 
-    first : (others : List (ℕ × List ℕ)) → map (λ n. n.1) (cond (stands_before (met ++ name ∷ names) (length met, name)) ((length met, name) ∷ others) others)
-        ≡ cond (stands_before (met ++ name ∷ names) (length met, name)) (name ∷ map (λ n. n.1) others) (map (λ n. n.1) others)
-    first others = by (stands_before (met ++ name ∷ names) (length met, name))
+    first : (others : List (ℕ × List ℕ)) → map (λ n. n.1) (cond (is_repeated_at (met ++ name ∷ names) (length met, name)) ((length met, name) ∷ others) others)
+        ≡ cond (is_repeated_at (met ++ name ∷ names) (length met, name)) (name ∷ map (λ n. n.1) others) (map (λ n. n.1) others)
+    first others = by (is_repeated_at (met ++ name ∷ names) (length met, name))
       where
         by : (b : Bool) → map (λ n. n.1) (cond b ((length met, name) ∷ others) others) ≡ cond b (name ∷ map (λ n. n.1) others) (map (λ n. n.1) others)
         by true = refl
         by false = refl
 
-    before : stands_before (met ++ name ∷ names) (length met, name) ≡ is_among met name
+    before : is_repeated_at (met ++ name ∷ names) (length met, name) ≡ is_among met name
     before = ap (λ front. is_among front name) (take_at met (name ∷ names) (length met) refl)
 
     step : map (λ n. n.1) (found ((met ++ name ∷ []) ++ names) (length (met ++ name ∷ []))) ≡ later (met ++ name ∷ []) names → map (λ n. n.1) (found (met ++ name ∷ names) (length met + 1)) ≡ later (met ++ name ∷ []) names

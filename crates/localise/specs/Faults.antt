@@ -19,12 +19,12 @@ abbrev pub unknown_ids : (List ℕ → Bool) → List Term → List (List ℕ)
 unknown_ids is_known terms = flat_map (unknown_in is_known) terms
 
 -- whether a name with its place stands before that place
-abbrev pub stands_before : List (List ℕ) → ℕ × List ℕ → Bool
-stands_before names name = is_among (take name.0 names) name.1
+abbrev pub is_repeated_at : List (List ℕ) → ℕ × List ℕ → Bool
+is_repeated_at names name = is_among (take name.0 names) name.1
 
 -- the names that stand before their places
 abbrev pub repeats_in : List (List ℕ) → List (List ℕ)
-repeats_in names = map (λ name. name.1) (filter (stands_before names) (enumerate_from 0 names))
+repeats_in names = map (λ name. name.1) (filter (is_repeated_at names) (enumerate_from 0 names))
 
 -- the ids that stand before their places in one term
 abbrev pub repeated_ids : List Term → List (List ℕ)

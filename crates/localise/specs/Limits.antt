@@ -1,5 +1,5 @@
 -- The limits of ids as the terms are looked at, and the table that keeps them.
-use Rattle.std.specs.Prelude.{ℕ, Bool, List, map, max, min, Option, None, Some, unwrap_or}
+use Rattle.std.specs.Prelude.{ℕ, Bool, List, map, max, min, Option, None, Some, is_some, unwrap_or}
 use Rattle.std.specs.Option.{option_map_or}
 use Rattle.std.specs.Ordering.{nat_cmp}
 use Rattle.std.specs.BTreeMap.{BTreeMap, get_by}
@@ -46,6 +46,9 @@ limits_of terms id = record { floor = min_for terms id; cap = max_for terms id }
 -- what a table holds under an id
 abbrev pub held_for : BTreeMap (Bor (List ℕ)) Limits → List ℕ → Option Limits
 held_for table id = get_by (λ key. slice_cmp nat_cmp id key.now) table
+
+abbrev pub is_held : BTreeMap (Bor (List ℕ)) Limits → List ℕ → Bool
+is_held table id = is_some (held_for table id)
 
 abbrev pub limits_at : Option Limits → Limits
 limits_at limits = unwrap_or limits unlimited

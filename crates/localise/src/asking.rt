@@ -1,11 +1,11 @@
 //! Whether a formula gives rates, asked of one kind of fault after another.
 
-ghost use Rattle.std.specs.Prelude.{◌≡◌, ◌≢◌, [], List, ℕ, IfErr, OnOk, Option, map, is_some, slice_get};
+ghost use Rattle.std.specs.Prelude.{◌≡◌, ◌≢◌, [], List, ℕ, IfErr, OnOk, Option, map, slice_get};
 ghost use Rattle.std.specs.Option.{option_copied, option_to_list};
 ghost use Rattle.merlin_model.specs.Rates.{ids_of};
 ghost use Rattle.localise.specs.declared.fault.RateFault.TheVariants.{UnknownId, RepeatedId, ConstantTooLarge, OutOfMemory};
 ghost use Rattle.localise.specs.Faults.{unknown_in, unknown_ids, repeats_in, repeated_ids, has_large_constants, large_terms, conflict_of, IsFirst};
-ghost use Rattle.localise.specs.Limits.{held_for};
+ghost use Rattle.localise.specs.Limits.{is_held};
 
 use crate::fault::RateFault;
 use crate::limits::Limits;
@@ -19,7 +19,7 @@ use std::collections::BTreeSet;
 // The first id of a term that has no place in the table.
 fn first_unknown<'t>(table: &Table<'_>, term: &'t Term) -> Option<&'t Name>
     ensures { option_copied result ≡
-        slice_get (unknown_in (λ name. is_some (held_for table.now name)) term.now) 0 }
+        slice_get (unknown_in (is_held table.now) term.now) 0 }
 {
     for part in term.parts.as_slice() {
         if let Part::Id(id) = part
@@ -33,9 +33,9 @@ fn first_unknown<'t>(table: &Table<'_>, term: &'t Term) -> Option<&'t Name>
 
 // Asks that each id in the terms has a place in the table.
 pub(crate) fn ask_known(alloc: Global, table: &Table<'_>, terms: &[Term]) -> Result<(), RateFault>
-    ensures ok { OnOk result (unknown_ids (λ name. is_some (held_for table.now name)) terms.now ≡ []) }
+    ensures ok { OnOk result (unknown_ids (is_held table.now) terms.now ≡ []) }
     ensures err { IfErr result (IsFirst
-        (map UnknownId (unknown_ids (λ name. is_some (held_for table.now name)) terms.now))) }
+        (map UnknownId (unknown_ids (is_held table.now) terms.now))) }
 {
     for term in terms {
         if let Some(id) = first_unknown(table, term) {

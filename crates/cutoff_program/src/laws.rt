@@ -14,7 +14,7 @@ ghost use Rattle.merlin_model.specs.Words.{IsWalk};
 ghost use Rattle.merlin_model.specs.Policies.{Policy, IsOnPath};
 ghost use Rattle.merlin_model.specs.Assignments.{IsAssignment, IsFeasible, IsSmaller};
 ghost use Rattle.rules_model.specs.Products.{SymbolAutomaton};
-ghost use Rattle.cutoff_program.specs.Flows.{Flow, Problem, program_at, cutoff_of, takes, is_below, entries_from, chosen_from, Variable, variables_of, last_of};
+ghost use Rattle.cutoff_program.specs.Flows.{Flow, Problem, program_at, cutoff_of, takes, is_below, entries_from, chosen_from, Variable, variables_of, last_of, cost_of_variable};
 ghost use Rattle.cutoff_program.specs.Limits.{IsProblem, HasCutoffsOf};
 ghost use Rattle.cutoff_program.specs.Trails.{IsTrailOf, IsShortened, IsBalanced, HasChosenTrail, IsPath, ArePaths, AreTrailsFrom, edges_of, point_with, FitsCapacities, IsPointOf, HasPaths, AreOverChosenEdges, AreWithinPoint};
 ghost use Rattle.rules_model.specs.Plain.{any_automaton};
@@ -145,8 +145,10 @@ pub fn triangle_flow()
     ensures flow { flow_of triangle_net 60 triangle_product ≡ over_triangle }
 {}
 
-/// The rates of variables are small.
+/// The rates of variables and what they cost are small.
 pub fn variables_are_small()
-    ensures { (problem : Problem) → IsProblem problem →
+    ensures rates { (problem : Problem) → IsProblem problem →
         AllByRecursion (λ v. v.rate ≤ 10 ^ 9) (variables_of problem) }
+    ensures costs { (problem : Problem) → IsProblem problem →
+        AllByRecursion (λ v. cost_of_variable problem v ≤ 10 ^ 9) (variables_of problem) }
 {}

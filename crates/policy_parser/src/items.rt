@@ -14,7 +14,7 @@ use crate::predicates::predicate;
 use crate::signs::{any_name_at, bound_at, name_at, rate_at, sign_at, text, word_at};
 use merlin_model::name::{Name, name_from};
 use merlin_model::policy::Pred;
-use merlin_text::{Cursor, Sign, Kind, Word};
+use merlin_text::{Cursor, Kind, Sign, Word};
 use policy_grammar::limits::{MAX_NESTING, MAX_PATH_NAMES, MAX_TESTS};
 use policy_grammar::written::{Item, Limit, RawPath, WrittenStatement};
 use sqlite_items::Items;

@@ -11,7 +11,7 @@ ghost use Rattle.policy_parser.specs.Goes.{Reads, IsInSequence, path_awaited, be
 use crate::fault::ReadError;
 use crate::signs::text;
 use merlin_model::name::name_from;
-use merlin_text::{Cursor, Sign, Token, Kind};
+use merlin_text::{Cursor, Kind, Sign, Token};
 use policy_grammar::written::RawPath;
 use sqlite_items::{Boxed, Items};
 use std::alloc::Global;

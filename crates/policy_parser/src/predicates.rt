@@ -14,7 +14,7 @@ ghost use Rattle.policy_parser.specs.Goes.{Reads, IsSyntax, pred_awaited};
 use crate::fault::ReadError;
 use crate::signs::{sign_at, text};
 use merlin_model::policy::{Field, Pred, Test};
-use merlin_text::{Cursor, Sign, Token, Kind, Word};
+use merlin_text::{Cursor, Kind, Sign, Token, Word};
 use policy_grammar::written::Tested;
 use sqlite_items::{Boxed, Items};
 use std::alloc::Global;

@@ -9,7 +9,7 @@ ghost use Rattle.policy_parser.specs.Goes.{Reads, IsSyntax, set_awaited, first_i
 use crate::fault::ReadError;
 use crate::signs::{sign_at, text};
 use merlin_model::name::name_from;
-use merlin_text::{Cursor, Sign, Token, Kind};
+use merlin_text::{Cursor, Kind, Sign, Token};
 use policy_grammar::written::{Literal, WrittenSet};
 use sqlite_items::Items;
 use std::alloc::Global;

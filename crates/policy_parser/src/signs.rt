@@ -11,7 +11,7 @@ ghost use Rattle.policy_parser.specs.Goes.{Reads, IsSyntax, text_in, statement_a
 use crate::fault::ReadError;
 use merlin_model::name::{Name, name_from};
 use merlin_model::policy::Bound;
-use merlin_text::{Cursor, Sign, Span, Kind, Word};
+use merlin_text::{Cursor, Kind, Sign, Span, Word};
 use std::alloc::Global;
 
 /// The bytes of a token; none where its ends are none of the text.

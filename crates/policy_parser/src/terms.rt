@@ -16,7 +16,7 @@ use crate::fault::ReadError;
 use crate::signs::{bound_at, rate_at, sign_at, text};
 use merlin_model::name::name_from;
 use merlin_model::policy::{Part, Term};
-use merlin_text::{Cursor, Sign, Kind, Word};
+use merlin_text::{Cursor, Kind, Sign, Word};
 use sqlite_items::Items;
 use std::alloc::Global;
 

@@ -3,7 +3,8 @@
 use crate::store::{Store, content, memory};
 use crate::texts::{parted, text_of};
 use crate::{
-    automata, deliveries, networks, outside, packets, policies, rates, sizes, tokens, traffic, trees,
+    automata, deliveries, networks, outside, packets, policies, rates, sizes, tokens, traffic,
+    trees,
 };
 use merlin::run;
 use merlin_base::{MemorySink, OutOfMemory};

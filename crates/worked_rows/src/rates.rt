@@ -1,7 +1,7 @@
 //! Localised rates.
 
 use crate::policies::fault_answer;
-use crate::texts::{text_of};
+use crate::texts::text_of;
 use localise::{RateFault, Rates, localise};
 use merlin_base::{Name, OutOfMemory};
 use policy_parser::{Policy, Statement, parse};

@@ -23,7 +23,7 @@ use Rattle.merlin_text.specs.Lexemes.{Lexeme, name, word, sign, number, rate, ma
 use Rattle.policy_grammar.specs.Machine.{Awaited, this_sign, terms_rest, term, leading, sum_rest, summand, term_rate, State, with_term, feed_all, next_step, run, awaiting, first_state}
 use Rattle.policy_grammar.proofs.PolicyTexts.{sound}
 use Rattle.rate_formula.specs.FormulaLexemes.{part_lexeme, term_lexemes, formula_lexemes, lexemes_of, HasLexemes}
-use Rattle.policy_parser.specs.Goes.{policy_with}
+use Rattle.policy_parser.specs.Readers.{policy_with}
 use Rattle.policy_parser.specs.Policies.{IsPolicyText, HasId, formula_alone}
 
 -- The formula's own lexemes are read as it is.

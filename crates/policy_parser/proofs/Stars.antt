@@ -1,22 +1,18 @@
 -- Laws of the run that readers of paths want.
 use Rattle.std.proofs.Common.{ℕ, ◌≡◌, suc, true, false, cond, List, [], ◌∷◌, ◌++◌, Err, Result, length, refl, ap, sym, ◌∙◌}
 use Rattle.std.specs.Prelude.{Bool, None, ok_or}
-use Rattle.std.proofs.lemmas.List.{length-map}
-use Rattle.merlin_text.specs.declared.token.Token.{Token}
 use Rattle.merlin_text.specs.declared.token.Sign.TheVariants as signs
 use Rattle.policy_grammar.specs.declared.written.RawPath.{RawPath, Not}
 use Rattle.policy_grammar.specs.declared.written.WrittenPolicy.{WrittenPolicy}
-use Rattle.policy_grammar.specs.Lexemes.{Lexeme, lexeme, lexemes, sign}
+use Rattle.policy_grammar.specs.Lexemes.{Lexeme, sign}
 use Rattle.policy_grammar.specs.PathTexts.{one_or_cat}
 use Rattle.policy_grammar.specs.Machine.{Awaited, path_negation, rep, prim, reps, alts, feed_rep, feed_alts, feed_sequence, feed_prim, feed_all, put_path, repeated, finish_all, next_step, run, awaiting}
-use Rattle.policy_parser.specs.Goes.{IsInSequence, begins_list, is_star, stars_list}
+use Rattle.policy_parser.specs.Readers.{IsInSequence, begins_list, is_star, stars_list}
 
 -- with no name and no dot left nothing can begin
-pub none_left : (bytes : List ℕ) (ts : List Token) (k : List Awaited) (n : ℕ) → n ≡ 0 → run (lexemes bytes ts) (awaiting (rep ∷ k) n) ≡ Err (length ts)
-none_left bytes [] k n e = refl
-none_left bytes (t ∷ ts) k n e =
-    ap (λ m. next_step (feed_rep k m (lexeme bytes t)) (suc (length (lexemes bytes ts))) (λ u. run (lexemes bytes ts) u)) e
-    ∙ ap (λ x. let r : Result WrittenPolicy ℕ = Err (suc x) in r) (length-map ts (lexeme bytes))
+pub none_left : (ts : List Lexeme) (k : List Awaited) (n : ℕ) → n ≡ 0 → run ts (awaiting (rep ∷ k) n) ≡ Err (length ts)
+none_left [] k n e = refl
+none_left (t ∷ ts) k n e = ap (λ m. next_step (feed_rep k m t) (suc (length ts)) (λ u. run ts u)) e
 
 -- where a rep begins, it goes on the sequence
 pub goes_on : (ts : List Lexeme) (ls ps : List RawPath) (k : List Awaited) (n : ℕ) → begins_list ts ≡ true → run ts (awaiting (reps ls ∷ alts ps ∷ k) n) ≡ run ts (awaiting (rep ∷ reps ls ∷ alts ps ∷ k) n)

@@ -15,7 +15,7 @@ use Rattle.cutoff_program.specs.Trails.{IsPath, IsNeat}
 use Rattle.cutoff_program.specs.Flows.{rate_over}
 use Rattle.cutoff_program.specs.Easy.{MayIn}
 use Rattle.cutoff_program.specs.Limits.{IsProblem}
-use Rattle.price_candidates.specs.Tried.{point_with, IsTried, IsLeastPath, edges_of, HasEdgesOf, IsBetter, alone, is_fixed_to_one, point_in, IsSettled, Broken, Unbroken}
+use Rattle.price_candidates.specs.Tried.{point_with, IsTried, IsLeastPath, edges_of, HasEdgesOf, IsBetter, one_weight, is_fixed_to_one, point_in, IsSettled, Broken, Unbroken}
 use Rattle.price_candidates.proofs.Points.{ArePaths}
 use Rattle.price_candidates.proofs.Solving.{Meets, fits-link, fits-cutoff, marks-of, solves, point-neat}
 use Rattle.price_candidates.proofs.Spreading.{paths-marked}
@@ -69,19 +69,19 @@ module _ (program : Program) (box : List (Option Bool)) (in_box : IsBox program 
   left : ℕ → ℤ
   left row = left_side (row_at program row).entries (point_in box)
 
-  least-alone : (row : ℕ) (w : ℤ) → least_value program box (alone row w) ≡ w *ℤ left row
+  least-alone : (row : ℕ) (w : ℤ) → least_value program box (one_weight row w) ≡ w *ℤ left row
   unfolding left
   least-alone row w =
-      total-same (λ v. least_addition (fixed_at box v) (is_chosen program.upper v) (weighted_coefficient program (alone row w) v)) (λ v. w *ℤ coefficient_if (is_chosen (point_in box) v) (coefficient_in v (row_at program row).entries)) (range_with_len 0 (variables program))
-      (λ v. addition-is v (weighted_coefficient program (alone row w) v) ∙ ap (coefficient_if (is_chosen (point_in box) v)) (just (w *ℤ coefficient_in v (row_at program row).entries)) ∙ taken-mul (is_chosen (point_in box) v) w (coefficient_in v (row_at program row).entries))
+      total-same (λ v. least_addition (fixed_at box v) (is_chosen program.upper v) (weighted_coefficient program (one_weight row w) v)) (λ v. w *ℤ coefficient_if (is_chosen (point_in box) v) (coefficient_in v (row_at program row).entries)) (range_with_len 0 (variables program))
+      (λ v. addition-is v (weighted_coefficient program (one_weight row w) v) ∙ ap (coefficient_if (is_chosen (point_in box) v)) (just (w *ℤ coefficient_in v (row_at program row).entries)) ∙ taken-mul (is_chosen (point_in box) v) w (coefficient_in v (row_at program row).entries))
       ∙ total-mul w (λ v. coefficient_if (is_chosen (point_in box) v) (coefficient_in v (row_at program row).entries)) (range_with_len 0 (variables program))
       ∙ ap (λ t. w *ℤ t) (row_sum (point_in box) (variables program) (row_at program row).entries (length-map box is_fixed_to_one ∙ in_box.size))
     where
       just : (t : ℤ) → t +ℤ pos 0 ≡ t
       just t = omega (arith, ints)
 
-  -- a row alone refutes where its weighted left side is past its weighted right side
-  alone-refutes : (row : ℕ) (w : ℤ) → row < length program.rows → nat_abs w ≤ 2 ^ 60 → IsPositiveOnBounds (row_at program row).is_equality w → (w *ℤ (row_at program row).right) <ℤ (w *ℤ left row) → RefutesBox program box (alone row w)
+  -- a row one_weight refutes where its weighted left side is past its weighted right side
+  alone-refutes : (row : ℕ) (w : ℤ) → row < length program.rows → nat_abs w ≤ 2 ^ 60 → IsPositiveOnBounds (row_at program row).is_equality w → (w *ℤ (row_at program row).right) <ℤ (w *ℤ left row) → RefutesBox program box (one_weight row w)
   alone-refutes row w exists low sign over = record {
     ascend = λ k h. let bad : ⊥ = omega arith in absurd bad;
     exist = (exists, tt);
@@ -169,7 +169,7 @@ closed-better problem cutoff box by_cost paths point form in_box tried of closed
 
 pub closed-decided : (problem : Problem) (cutoff : Option Value) (box : List (Option Bool)) (by_cost : ℕ → ℕ → ℕ) (paths : List (List ℕ)) (point : List Bool) → IsProblem problem → IsBox (program_at problem cutoff) box →
     IsTried problem cutoff box by_cost paths → HasEdgesOf problem paths point → ((k : ℕ) → ¬ IsOpen (program_at problem cutoff) box k) →
-    ((row : ℕ) (weight : ℤ) → row < length (program_at problem cutoff).rows → (weight ≡ pos 1) ⊎ (weight ≡ negsuc 0) → ¬ RefutesBox (program_at problem cutoff) box (alone row weight)) → IsBetter problem cutoff point
+    ((row : ℕ) (weight : ℤ) → row < length (program_at problem cutoff).rows → (weight ≡ pos 1) ⊎ (weight ≡ negsuc 0) → ¬ RefutesBox (program_at problem cutoff) box (one_weight row weight)) → IsBetter problem cutoff point
 closed-decided problem cutoff box by_cost paths point form in_box tried of closed no_row_alone = by (settled (program_at problem cutoff) box in_box closed)
   where
     by : IsSettled (program_at problem cutoff) box → IsBetter problem cutoff point

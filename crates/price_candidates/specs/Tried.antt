@@ -117,9 +117,9 @@ pub data IsDecidedBy (problem : Problem) (cutoff : Option Value) (box : List (Op
   ByLink : (link : ℕ) (exists : link < length problem.links) → RefutesBox (program_at problem cutoff) box (leaf_from problem (links link exists).at (OnLink link)) → IsDecidedBy problem cutoff box by_cost links point
   ByPoint : IsBetter problem cutoff point → IsDecidedBy problem cutoff box by_cost links point
 
--- one row alone
-abbrev pub alone : ℕ → ℤ → List Weight
-alone row weight = record { row = row; weight = weight } ∷ []
+-- one row one_weight
+abbrev pub one_weight : ℕ → ℤ → List Weight
+one_weight row weight = record { row = row; weight = weight } ∷ []
 
 -- the box's own point: 1 where it fixes to 1
 abbrev pub is_fixed_to_one : Option Bool → Bool
@@ -131,7 +131,7 @@ point_in box = map is_fixed_to_one box
 
 -- A row of a box without an open variable refutes by itself, or no row is broken.
 pub data IsSettled (program : Program) (box : List (Option Bool)) : Type 0 where
-  Broken : (row : ℕ) (weight : ℤ) → row < length program.rows → (weight ≡ pos 1) ⊎ (weight ≡ negsuc 0) → RefutesBox program box (alone row weight) → IsSettled program box
+  Broken : (row : ℕ) (weight : ℤ) → row < length program.rows → (weight ≡ pos 1) ⊎ (weight ≡ negsuc 0) → RefutesBox program box (one_weight row weight) → IsSettled program box
   Unbroken : IsSolution program (point_in box) → IsSettled program box
 
 -- From least sums, where there are any, to numbers at vertices.

@@ -13,7 +13,7 @@ ghost use Rattle.cutoff_program.specs.Easy.{IsEasy};
 ghost use Rattle.cutoff_program.specs.Limits.{IsProblem};
 ghost use Rattle.price_candidates.specs.Leaves.{Pricing, Bare, Lengths, OnLink, IsPriced, leaf_from, priced_right, AreSmallNumbers, Adds, amounts_from};
 ghost use Rattle.price_candidates.specs.OneLink.{least_at_root, two_over_link, rates_to, link_leaf};
-ghost use Rattle.price_candidates.specs.Tried.{leaf_by_costs, IsReached, AreLeastSums, IsUnreached, IsTried, HasTriedLinks, HasFailed, IsLight, lengths_by, only, HasEdgesOf, IsBetter, IsDecidedBy, alone, IsSettled, point_with, edges_of, SpreadsCosts, IsCapped, capped, missing};
+ghost use Rattle.price_candidates.specs.Tried.{leaf_by_costs, IsReached, AreLeastSums, IsUnreached, IsTried, HasTriedLinks, HasFailed, IsLight, lengths_by, only, HasEdgesOf, IsBetter, IsDecidedBy, one_weight, IsSettled, point_with, edges_of, SpreadsCosts, IsCapped, capped, missing};
 
 /// Numbers at vertices refute, with at most one row priced, where what the flows add is past the priced row's right side.
 pub fn potentials_refute()
@@ -65,7 +65,7 @@ pub fn closed_boxes_are_decided()
         HasEdgesOf problem paths point → ((k : ℕ) → ¬ IsOpen (program_at problem cutoff) box k) →
         ((row : ℕ) (weight : ℤ) → row < length (program_at problem cutoff).rows →
         (weight ≡ pos 1) ⊎ (weight ≡ negsuc 0) →
-        ¬ RefutesBox (program_at problem cutoff) box (alone row weight)) →
+        ¬ RefutesBox (program_at problem cutoff) box (one_weight row weight)) →
         IsBetter problem cutoff point }
 {}
 

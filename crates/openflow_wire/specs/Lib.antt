@@ -3,3 +3,4 @@ pub mod Fields
 pub mod Messages
 pub mod Frames
 pub mod Layout
+pub mod Examples

@@ -8,7 +8,7 @@ mod numbers;
 mod reading;
 mod writing;
 
-pub use laws::{message_is_read_back, message_matches_as_its_rule};
+pub use laws::{message_is_read_back, message_matches_as_its_rule, worked_messages};
 pub use layout::{FIELDS, FieldForm, Taken};
 pub use matching::matches;
 pub use numbers::{GREATEST_PORT, IN_PORT, IPV4, MAX_QUEUE, MAX_VLAN, NO_VLAN, Number};

@@ -63,7 +63,7 @@ impl From<ExpansionFault> for PolicyFault {
 pub enum ReadError {
     /// Memory ran out.
     Memory,
-    /// No policy goes on so; that many tokens are left there.
+    /// No policy goes on so; that many lexemes are left there.
     Syntax(usize),
 }
 

@@ -1,35 +1,27 @@
 //! The items of the list.
 
-ghost use Rattle.std.specs.Prelude.{◌≡◌, ◌<◌, ℕ, List, [], ◌∷◌, IfOk, IfErr, Option, None, Some, length};
+ghost use Rattle.std.specs.Prelude.{◌≡◌, ℕ, List, [], ◌∷◌, IfErr, Option, None};
 ghost use Rattle.merlin_model.specs.declared.policy.Pred.{Pred};
 ghost use Rattle.policy_grammar.specs.declared.written.RawPath.{RawPath};
 ghost use Rattle.policy_grammar.specs.declared.written.WrittenSet.{WrittenSet};
-ghost use Rattle.policy_grammar.specs.Machine.{Awaited, Head, Heading, Opened, whole_path, statement_path, limit as limit_awaited, limit_rest, with_limit, item, formula, heading_of, closed, with_item, item_from, at};
-ghost use Rattle.policy_parser.specs.Goes.{Reads, IsSyntax, opened, ended, after_entry, policy_of, statement_awaited, path_awaited, variables_awaited, cross_awaited, each_id_awaited, default_awaited, first_item};
+ghost use Rattle.policy_grammar.specs.Machine.{Awaited, Head, Heading, Opened, limit as any_limit, item, heading_of, awaiting};
+ghost use Rattle.policy_parser.specs.Readers.{Reads, Shortens, Skips, ShortensTo, IsSyntax, alone, after_limit, limits_awaited, after_limits, end_of_statement, path_of_statement, after_statement, after_entry, after_list, statement_awaited, variables_awaited, cross_awaited, for_each_awaited, after_cross, default_awaited, first_item};
 
 use crate::fault::ReadError;
 use crate::paths::path_of;
 use crate::predicates::predicate;
-use crate::signs::{any_name_at, bound_at, name_at, rate_at, sign_at, text, word_at};
+use crate::signs::{Read, any_name_at, bound_at, name_at, next_of, rate_at, sign_at, word_at};
 use merlin_model::name::{Name, name_from};
 use merlin_model::policy::Pred;
-use merlin_text::{Cursor, Kind, Sign, Word};
+use merlin_text::{Lexeme, Lexemes, Sign, Word};
+use policy_grammar::limits::{MAX_NESTING, MAX_PATH_NAMES, MAX_TESTS};
 use policy_grammar::written::{Item, Limit, RawPath, WrittenStatement};
 use sqlite_items::Items;
 use std::alloc::Global;
 
-/// How many brackets and bangs may be open at once.
-const NESTING: usize = 128;
-
-/// How many tests a predicate may have.
-const TESTS: usize = 4_096;
-
-/// How many names and dots a path may have.
-const NAMES: usize = 2_048;
-
 /// What a sign after an item ends.
 #[derive(Clone, Copy)]
-pub enum End {
+pub enum Ending {
     /// The item alone: another may follow.
     Item,
     /// The whole list.
@@ -40,7 +32,7 @@ pub enum End {
 #[derive(Drop)]
 pub enum Entry {
     /// An item, with what its last sign ends.
-    Item(Item, End),
+    Item(Item, Ending),
     /// The default, which ends the list.
     Default(RawPath),
     /// The end of the list.
@@ -48,14 +40,13 @@ pub enum Entry {
 }
 
 /// A limit, and what follows it.
-fn limit_at<'a>(tokens: Cursor<'a>) -> Result<(Limit, Cursor<'a>), ReadError>
-    ensures goes { (bytes : List ℕ) (o : Opened) →
-        Reads bytes tokens.entry result (at (limit_awaited o ∷ []) 0)
-        (λ r. r.1) (λ r. at (limit_rest (with_limit o r.0.bound r.0.rate) ∷ []) 0) }
-    ensures shorter { IfOk result (λ r. length r.1 < length tokens.entry) }
+fn limit_at<'a>(lexemes: Lexemes<'a>) -> Read<'a, Limit>
+    ensures reads { (o : Opened) →
+        Reads (alone (any_limit o)) lexemes.entry result (after_limit o) }
+    ensures shorter { Shortens lexemes.entry result }
     ensures no_memory { IfErr result IsSyntax }
 {
-    let (bound, rest) = bound_at(tokens)?;
+    let (bound, rest) = bound_at(lexemes)?;
     let rest = sign_at(Sign::OpenGroup, rest)?;
     let (rate, rest) = rate_at(rest)?;
     let rest = sign_at(Sign::CloseGroup, rest)?;
@@ -63,71 +54,52 @@ fn limit_at<'a>(tokens: Cursor<'a>) -> Result<(Limit, Cursor<'a>), ReadError>
 }
 
 /// The limits after `at`, up to the sign that ends the statement.
-fn limits<'a>(
-    alloc: Global,
-    tokens: Cursor<'a>,
-) -> Result<(Items<Limit>, End, Cursor<'a>), ReadError>
-    ensures goes { (bytes : List ℕ) (h : Heading) (pred : Pred) (path : RawPath) →
-        Reads bytes tokens.entry result (at (limit_awaited (opened h pred path []) ∷ []) 0)
-        (λ r. r.2) (λ r. ended r.1 (closed (opened h pred path r.0))) }
-    ensures shorter { IfOk result (λ r. length r.2 < length tokens.entry) }
+fn limits<'a>(alloc: Global, lexemes: Lexemes<'a>) -> Read<'a, (Items<Limit>, Ending)>
+    ensures reads { (h : Heading) (pred : Pred) (path : RawPath) →
+        Reads (limits_awaited h pred path) lexemes.entry result (after_limits h pred path) }
+    ensures shorter { Shortens lexemes.entry result }
 {
     let mut limits = Items::new(alloc);
-    let mut rest = tokens;
+    let mut rest = lexemes;
     'limits: loop {
         let (limit, others) = limit_at(rest)?;
         limits.push(limit)?;
-        let Some((first, after)) = others.split_first() else {
-            return Err(ReadError::Syntax(0));
-        };
-        match first.kind {
-            Kind::Word(Word::And) => rest = after,
-            Kind::Sign(Sign::Semicolon) => return Ok((limits, End::Item, after)),
-            Kind::Sign(Sign::CloseList) => return Ok((limits, End::List, after)),
+        let (first, after) = next_of(&others)?;
+        match first {
+            Lexeme::Word(Word::And) => rest = after,
+            Lexeme::Sign(Sign::Semicolon) => return Ok(((limits, Ending::Item), after)),
+            Lexeme::Sign(Sign::CloseList) => return Ok(((limits, Ending::List), after)),
             _ => return Err(ReadError::Syntax(others.len())),
         }
     }
 }
 
 /// What follows a statement's path: its limits, and the sign that ends it.
-fn statement_end<'a>(
-    alloc: Global,
-    tokens: Cursor<'a>,
-) -> Result<(Items<Limit>, End, Cursor<'a>), ReadError>
-    ensures goes { (bytes : List ℕ) (h : Heading) (pred : Pred) (path : RawPath) (n : ℕ) →
-        Reads bytes tokens.entry result (at (whole_path path ∷ statement_path h pred ∷ []) n)
-        (λ r. r.2) (λ r. ended r.1 (closed (opened h pred path r.0))) }
-    ensures shorter { IfOk result (λ r. length r.2 < length tokens.entry) }
+fn statement_end<'a>(alloc: Global, lexemes: Lexemes<'a>) -> Read<'a, (Items<Limit>, Ending)>
+    ensures reads { (h : Heading) (pred : Pred) (path : RawPath) (n : ℕ) →
+        Reads (end_of_statement h pred path n) lexemes.entry result (after_limits h pred path) }
+    ensures shorter { Shortens lexemes.entry result }
 {
-    let Some((first, rest)) = tokens.split_first() else {
-        return Err(ReadError::Syntax(0));
-    };
-    match first.kind {
-        Kind::Word(Word::At) => limits(alloc, rest),
-        Kind::Sign(Sign::Semicolon) => Ok((Items::new(alloc), End::Item, rest)),
-        Kind::Sign(Sign::CloseList) => Ok((Items::new(alloc), End::List, rest)),
-        _ => Err(ReadError::Syntax(tokens.len())),
+    let (first, rest) = next_of(&lexemes)?;
+    match first {
+        Lexeme::Word(Word::At) => limits(alloc, rest),
+        Lexeme::Sign(Sign::Semicolon) => Ok(((Items::new(alloc), Ending::Item), rest)),
+        Lexeme::Sign(Sign::CloseList) => Ok(((Items::new(alloc), Ending::List), rest)),
+        _ => Err(ReadError::Syntax(lexemes.len())),
     }
 }
 
 /// A predicate and the arrow after it.
-fn pred_part<'a>(
-    alloc: Global,
-    bytes: &[u8],
-    tokens: Cursor<'a>,
-) -> Result<(Pred, Cursor<'a>), ReadError>
-    ensures goes { (h : Heading) →
-        Reads bytes.now tokens.entry result (statement_awaited h)
-        (λ r. r.1) (λ r. at (path_awaited (statement_path h r.0 ∷ [])) 2048) }
-    ensures shorter { IfOk result (λ r. length r.1 < length tokens.entry) }
+fn pred_part<'a>(alloc: Global, lexemes: Lexemes<'a>) -> Read<'a, Pred>
+    ensures reads { (h : Heading) →
+        Reads (statement_awaited h) lexemes.entry result (path_of_statement h) }
+    ensures shorter { Shortens lexemes.entry result }
 {
-    let rest = sign_at(Sign::Colon, tokens)?;
-    let (pred, rest, _left) = predicate(alloc, bytes, rest, NESTING, TESTS)?;
-    let Some((first, after)) = rest.split_first() else {
-        return Err(ReadError::Syntax(0));
-    };
-    match first.kind {
-        Kind::Sign(Sign::Arrow) => Ok((pred, after)),
+    let rest = sign_at(Sign::Colon, lexemes)?;
+    let ((pred, _left), rest) = predicate(alloc, rest, MAX_NESTING, MAX_TESTS)?;
+    let (first, after) = next_of(&rest)?;
+    match first {
+        Lexeme::Sign(Sign::Arrow) => Ok((pred, after)),
         _ => Err(ReadError::Syntax(rest.len())),
     }
 }
@@ -136,55 +108,44 @@ fn pred_part<'a>(
 fn statement<'a>(
     alloc: Global,
     id: Name,
-    bytes: &[u8],
-    tokens: Cursor<'a>,
-) -> Result<(WrittenStatement, End, Cursor<'a>), ReadError>
-    ensures goes { (h : Head) (pair : Option (List ℕ × List ℕ)) →
-        Reads bytes.now tokens.entry result (statement_awaited (heading_of h pair id))
-        (λ r. r.2) (λ r. ended r.1 (with_item h (item_from pair r.0))) }
-    ensures shorter { IfOk result (λ r. length r.2 < length tokens.entry) }
+    lexemes: Lexemes<'a>,
+) -> Read<'a, (WrittenStatement, Ending)>
+    ensures reads { (h : Head) (pair : Option (List ℕ × List ℕ)) →
+        Reads (statement_awaited (heading_of h pair id)) lexemes.entry result
+        (after_statement h pair) }
+    ensures shorter { Shortens lexemes.entry result }
 {
-    let (pred, rest) = pred_part(alloc, bytes, tokens)?;
-    let (path, rest, _left) = path_of(alloc, bytes, rest, NESTING, NAMES)?;
-    let (limits, end, rest) = statement_end(alloc, rest)?;
-    Ok((
-        WrittenStatement {
-            id,
-            pred,
-            path,
-            limits,
-        },
-        end,
-        rest,
-    ))
+    let (pred, rest) = pred_part(alloc, lexemes)?;
+    let ((path, _left), rest) = path_of(alloc, rest, MAX_NESTING, MAX_PATH_NAMES)?;
+    let ((limits, end), rest) = statement_end(alloc, rest)?;
+    let statement = WrittenStatement {
+        id,
+        pred,
+        path,
+        limits,
+    };
+    Ok(((statement, end), rest))
 }
 
 /// A plain statement whose id is read.
-fn plain<'a>(
-    alloc: Global,
-    id: &[u8],
-    bytes: &[u8],
-    tokens: Cursor<'a>,
-) -> Result<(Entry, Cursor<'a>), ReadError>
-    ensures goes { (h : Head) →
-        Reads bytes.now tokens.entry result (statement_awaited (heading_of h None id.now))
-        (λ r. r.1) (λ r. after_entry r.0 h) }
-    ensures shorter { IfOk result (λ r. length r.1 < length tokens.entry) }
+fn plain<'a>(alloc: Global, id: &[u8], lexemes: Lexemes<'a>) -> Read<'a, Entry>
+    ensures reads { (h : Head) →
+        Reads (statement_awaited (heading_of h None id.now)) lexemes.entry result (after_entry h) }
+    ensures shorter { Shortens lexemes.entry result }
 {
     let id = name_from(alloc, id)?;
-    let (statement, end, rest) = statement(alloc, id, bytes, tokens)?;
+    let ((statement, end), rest) = statement(alloc, id, lexemes)?;
     Ok((Entry::Item(Item::One(statement), end), rest))
 }
 
 /// The two names after `foreach`, which stand for nothing else.
-fn variables<'a>(tokens: Cursor<'a>) -> Result<Cursor<'a>, ReadError>
-    ensures goes { (bytes : List ℕ) (k : List Awaited) (n : ℕ) →
-        Reads bytes tokens.entry result (at (variables_awaited k) n)
-        (λ r. r) (λ r. at k n) }
-    ensures shorter { IfOk result (λ r. length r < length tokens.entry) }
+fn variables<'a>(lexemes: Lexemes<'a>) -> Result<Lexemes<'a>, ReadError>
+    ensures reads { (k : List Awaited) (n : ℕ) →
+        Skips (awaiting (variables_awaited k) n) lexemes.entry result (awaiting k n) }
+    ensures shorter { ShortensTo lexemes.entry result }
     ensures no_memory { IfErr result IsSyntax }
 {
-    let rest = sign_at(Sign::OpenGroup, tokens)?;
+    let rest = sign_at(Sign::OpenGroup, lexemes)?;
     let rest = any_name_at(rest)?;
     let rest = sign_at(Sign::Comma, rest)?;
     let rest = any_name_at(rest)?;
@@ -192,42 +153,32 @@ fn variables<'a>(tokens: Cursor<'a>) -> Result<Cursor<'a>, ReadError>
 }
 
 /// The two sets of a `foreach`, after its names.
-fn crossed<'a>(
-    alloc: Global,
-    bytes: &[u8],
-    tokens: Cursor<'a>,
-) -> Result<(Name, Name, Cursor<'a>), ReadError>
-    ensures goes { (h : Head) →
-        Reads bytes.now tokens.entry result (at (cross_awaited h) 0)
-        (λ r. r.2) (λ r. at (each_id_awaited h r.0 r.1) 0) }
-    ensures shorter { IfOk result (λ r. length r.2 < length tokens.entry) }
+fn crossed<'a>(alloc: Global, lexemes: Lexemes<'a>) -> Read<'a, (Name, Name)>
+    ensures reads { (h : Head) →
+        Reads (awaiting (cross_awaited h) 0) lexemes.entry result (after_cross h) }
+    ensures shorter { Shortens lexemes.entry result }
 {
-    let rest = word_at(Word::In, tokens)?;
+    let rest = word_at(Word::In, lexemes)?;
     let rest = word_at(Word::Cross, rest)?;
     let rest = sign_at(Sign::OpenGroup, rest)?;
-    let (outer, rest) = name_at(alloc, bytes, rest)?;
+    let (outer, rest) = name_at(alloc, rest)?;
     let rest = sign_at(Sign::Comma, rest)?;
-    let (inner, rest) = name_at(alloc, bytes, rest)?;
-    Ok((outer, inner, rest))
+    let (inner, rest) = name_at(alloc, rest)?;
+    Ok(((outer, inner), rest))
 }
 
 /// What follows `foreach`.
-fn for_each<'a>(
-    alloc: Global,
-    bytes: &[u8],
-    tokens: Cursor<'a>,
-) -> Result<(Entry, Cursor<'a>), ReadError>
-    ensures goes { (h : Head) →
-        Reads bytes.now tokens.entry result (at (variables_awaited (cross_awaited h)) 0)
-        (λ r. r.1) (λ r. after_entry r.0 h) }
-    ensures shorter { IfOk result (λ r. length r.1 < length tokens.entry) }
+fn for_each<'a>(alloc: Global, lexemes: Lexemes<'a>) -> Read<'a, Entry>
+    ensures reads { (h : Head) →
+        Reads (for_each_awaited h) lexemes.entry result (after_entry h) }
+    ensures shorter { Shortens lexemes.entry result }
 {
-    let rest = variables(tokens)?;
-    let (outer, inner, rest) = crossed(alloc, bytes, rest)?;
+    let rest = variables(lexemes)?;
+    let ((outer, inner), rest) = crossed(alloc, rest)?;
     let rest = sign_at(Sign::CloseGroup, rest)?;
     let rest = sign_at(Sign::Colon, rest)?;
-    let (id, rest) = name_at(alloc, bytes, rest)?;
-    let (statement, end, rest) = statement(alloc, id, bytes, rest)?;
+    let (id, rest) = name_at(alloc, rest)?;
+    let ((statement, end), rest) = statement(alloc, id, rest)?;
     let item = Item::ForEach {
         outer,
         inner,
@@ -237,24 +188,17 @@ fn for_each<'a>(
 }
 
 /// What follows `default`, up to the end of the list.
-fn default_path<'a>(
-    alloc: Global,
-    bytes: &[u8],
-    tokens: Cursor<'a>,
-) -> Result<(Entry, Cursor<'a>), ReadError>
-    ensures goes { (h : Head) →
-        Reads bytes.now tokens.entry result (at (default_awaited h) 2048)
-        (λ r. r.1) (λ r. after_entry r.0 h) }
-    ensures shorter { IfOk result (λ r. length r.1 < length tokens.entry) }
+fn default_path<'a>(alloc: Global, lexemes: Lexemes<'a>) -> Read<'a, Entry>
+    ensures reads { (h : Head) →
+        Reads (default_awaited h) lexemes.entry result (after_entry h) }
+    ensures shorter { Shortens lexemes.entry result }
 {
-    let rest = sign_at(Sign::Arrow, tokens)?;
-    let (path, rest, _left) = path_of(alloc, bytes, rest, NESTING, NAMES)?;
-    let Some((first, after)) = rest.split_first() else {
-        return Err(ReadError::Syntax(0));
-    };
-    match first.kind {
-        Kind::Sign(Sign::CloseList) => Ok((Entry::Default(path), after)),
-        Kind::Sign(Sign::Semicolon) => {
+    let rest = sign_at(Sign::Arrow, lexemes)?;
+    let ((path, _left), rest) = path_of(alloc, rest, MAX_NESTING, MAX_PATH_NAMES)?;
+    let (first, after) = next_of(&rest)?;
+    match first {
+        Lexeme::Sign(Sign::CloseList) => Ok((Entry::Default(path), after)),
+        Lexeme::Sign(Sign::Semicolon) => {
             let after = sign_at(Sign::CloseList, after)?;
             Ok((Entry::Default(path), after))
         }
@@ -263,53 +207,44 @@ fn default_path<'a>(
 }
 
 /// What stands where an item may begin, with the sign that ends it.
-fn entry_of<'a>(
-    alloc: Global,
-    bytes: &[u8],
-    tokens: Cursor<'a>,
-) -> Result<(Entry, Cursor<'a>), ReadError>
-    ensures goes { (h : Head) →
-        Reads bytes.now tokens.entry result (at (item h ∷ []) 0)
-        (λ r. r.1) (λ r. after_entry r.0 h) }
-    ensures shorter { IfOk result (λ r. length r.1 < length tokens.entry) }
+fn entry_of<'a>(alloc: Global, lexemes: Lexemes<'a>) -> Read<'a, Entry>
+    ensures reads { (h : Head) →
+        Reads (alone (item h)) lexemes.entry result (after_entry h) }
+    ensures shorter { Shortens lexemes.entry result }
 {
-    let Some((first, rest)) = tokens.split_first() else {
-        return Err(ReadError::Syntax(0));
-    };
-    match first.kind {
-        Kind::Name => plain(alloc, text(bytes, first.span), bytes, rest),
-        Kind::Word(Word::Foreach) => for_each(alloc, bytes, rest),
-        Kind::Word(Word::Default) => default_path(alloc, bytes, rest),
-        Kind::Sign(Sign::CloseList) => Ok((Entry::End, rest)),
-        _ => Err(ReadError::Syntax(tokens.len())),
+    let (first, rest) = next_of(&lexemes)?;
+    match first {
+        Lexeme::Name(text, _) => plain(alloc, text, rest),
+        Lexeme::Word(Word::Foreach) => for_each(alloc, rest),
+        Lexeme::Word(Word::Default) => default_path(alloc, rest),
+        Lexeme::Sign(Sign::CloseList) => Ok((Entry::End, rest)),
+        _ => Err(ReadError::Syntax(lexemes.len())),
     }
 }
 
 /// The items of the list and its default, and what follows the list.
 pub(crate) fn items<'a>(
     alloc: Global,
-    bytes: &[u8],
-    tokens: Cursor<'a>,
-) -> Result<(Items<Item>, Option<RawPath>, Cursor<'a>), ReadError>
+    lexemes: Lexemes<'a>,
+) -> Read<'a, (Items<Item>, Option<RawPath>)>
     ensures { (sets : List WrittenSet) →
-        Reads bytes.now tokens.entry result (first_item sets)
-        (λ r. r.2) (λ r. at (formula (policy_of sets r.0 r.1 []) ∷ []) 0) }
+        Reads (first_item sets) lexemes.entry result (after_list sets) }
 {
     let mut items = Items::new(alloc);
-    let mut rest = tokens;
+    let mut rest = lexemes;
     'items: loop {
-        let (entry, others) = entry_of(alloc, bytes, rest)?;
+        let (entry, others) = entry_of(alloc, rest)?;
         match entry {
-            Entry::Item(item, End::Item) => {
+            Entry::Item(item, Ending::Item) => {
                 items.push(item)?;
                 rest = others;
             }
-            Entry::Item(item, End::List) => {
+            Entry::Item(item, Ending::List) => {
                 items.push(item)?;
-                return Ok((items, None, others));
+                return Ok(((items, None), others));
             }
-            Entry::Default(path) => return Ok((items, Some(path), others)),
-            Entry::End => return Ok((items, None, others)),
+            Entry::Default(path) => return Ok(((items, Some(path)), others)),
+            Entry::End => return Ok(((items, None), others)),
         }
     }
 }

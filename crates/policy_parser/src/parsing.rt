@@ -7,7 +7,7 @@ ghost use Rattle.policy_parser.specs.Policies.{IsWritten, IsRead, IsRefused, IsR
 
 use crate::fault::{PolicyFault, ReadError};
 use crate::reading::read_policy;
-use merlin_text::{Cursor, scan};
+use merlin_text::{Cursor, Lexemes, scan};
 use policy_expansion::{Policy, expand};
 use policy_grammar::written::WrittenPolicy;
 use std::alloc::Global;
@@ -49,7 +49,7 @@ fn read(alloc: Global, bytes: &[u8], tokens: Cursor<'_>) -> Result<WrittenPolicy
     ensures { IsRead bytes.now tokens.entry result }
 {
     let count = tokens.len();
-    match read_policy(alloc, bytes, tokens.copy()) {
+    match read_policy(alloc, Lexemes::new(bytes, tokens.copy())) {
         Ok(policy) => Ok(policy),
         Err(ReadError::Memory) => Err(PolicyFault::OutOfMemory),
         Err(ReadError::Syntax(left)) => Err(PolicyFault::Syntax {

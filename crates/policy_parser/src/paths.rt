@@ -1,40 +1,31 @@
 //! Path expressions.
 
-ghost use Rattle.std.specs.Prelude.{◌≡◌, ◌+◌, ◌<◌, ◌≤◌, ℕ, List, [], ◌∷◌, ◌++◌, IfOk, length, false};
+ghost use Rattle.std.specs.Prelude.{◌≡◌, ◌+◌, ◌≤◌, ℕ, List, [], ◌∷◌, ◌++◌, IfOk, length, false};
+ghost use Rattle.policy_grammar.specs.declared.limits.TheConstants.{MAX_NESTING};
 ghost use Rattle.policy_grammar.specs.declared.written.RawPath.{RawPath};
-ghost use Rattle.policy_grammar.specs.Lexemes.{lexemes};
-ghost use Rattle.policy_grammar.specs.PathTexts.{cat_of, alt_of};
-ghost use Rattle.policy_grammar.specs.Machine.{Awaited, rep as rep_awaited, prim, reps, alts, path_bracket, whole_path, put_path, opens, run, at};
-ghost use Rattle.policy_parser.specs.Goes.{Reads, IsInSequence, path_awaited, begins_list, stars_list};
+ghost use Rattle.policy_grammar.specs.PathTexts.{one_or_cat, one_or_alt};
+ghost use Rattle.policy_grammar.specs.Machine.{Awaited, rep as rep_awaited, prim, reps, alts, path_bracket, whole_path, put_path, opens, run, awaiting};
+ghost use Rattle.policy_parser.specs.Readers.{Reads, Shortens, IsInSequence, path_awaited, after_rep, after_sequence, after_path, begins_list, stars_list};
 
 use crate::fault::ReadError;
-use crate::signs::text;
+use crate::signs::{Read, next_of};
 use merlin_model::name::name_from;
-use merlin_text::{Cursor, Kind, Sign, Token};
+use merlin_text::{Lexeme, Lexemes, Sign};
 use policy_grammar::written::RawPath;
 use sqlite_items::{Boxed, Items};
 use std::alloc::Global;
 
 /// Whether there are stars, and what follows them.
-fn stars<'a>(tokens: Cursor<'a>) -> (bool, Cursor<'a>)
-    ensures goes { (bytes : List ℕ) (p : RawPath) (k : List Awaited) (n : ℕ) →
-        run (lexemes bytes tokens.entry) (at (prim p false ∷ k) n)
-        ≡ run (lexemes bytes result.1) (at (prim p result.0 ∷ k) n) }
-    ensures all { (bytes : List ℕ) → stars_list (lexemes bytes result.1) ≡ false }
-    ensures shorter { length result.1 ≤ length tokens.entry }
+fn stars<'a>(lexemes: Lexemes<'a>) -> (bool, Lexemes<'a>)
+    ensures reads { (p : RawPath) (k : List Awaited) (n : ℕ) →
+        run lexemes.entry (awaiting (prim p false ∷ k) n)
+        ≡ run result.1 (awaiting (prim p result.0 ∷ k) n) }
+    ensures all { stars_list result.1 ≡ false }
+    ensures shorter { length result.1 ≤ length lexemes.entry }
 {
     let mut found = false;
-    let mut rest = tokens;
-    'stars: while let Some(
-        (
-            Token {
-                kind: Kind::Sign(Sign::Star),
-                ..
-            },
-            others,
-        ),
-    ) = rest.split_first()
-    {
+    let mut rest = lexemes;
+    'stars: while let Some((Lexeme::Sign(Sign::Star), others)) = rest.split_first() {
         found = true;
         rest = others;
     }
@@ -42,17 +33,13 @@ fn stars<'a>(tokens: Cursor<'a>) -> (bool, Cursor<'a>)
 }
 
 /// A path with the stars after it, and what follows them.
-fn with_stars<'a>(
-    alloc: Global,
-    path: RawPath,
-    tokens: Cursor<'a>,
-) -> Result<(RawPath, Cursor<'a>), ReadError>
-    ensures goes { (bytes : List ℕ) (k : List Awaited) (n : ℕ) → IsInSequence k →
-        Reads bytes tokens.entry result (at (prim path false ∷ k) n)
-        (λ r. r.1) (λ r. at (put_path r.0 k) n) }
-    ensures shorter { IfOk result (λ r. length r.1 ≤ length tokens.entry) }
+fn with_stars<'a>(alloc: Global, path: RawPath, lexemes: Lexemes<'a>) -> Read<'a, RawPath>
+    ensures reads { (k : List Awaited) (n : ℕ) → IsInSequence k →
+        Reads (awaiting (prim path false ∷ k) n) lexemes.entry result
+        (λ path. awaiting (put_path path k) n) }
+    ensures shorter { IfOk result (λ read. length read.1 ≤ length lexemes.entry) }
 {
-    let (found, rest) = stars(tokens);
+    let (found, rest) = stars(lexemes);
     if found {
         Ok((RawPath::Star(Boxed::new(alloc, path)?), rest))
     } else {
@@ -62,7 +49,7 @@ fn with_stars<'a>(
 
 /// One path is itself, several are a `Cat`.
 fn cat(mut parts: Items<RawPath>) -> RawPath
-    ensures { result ≡ cat_of parts }
+    ensures { result ≡ one_or_cat parts }
 {
     if parts.len() == 1 {
         if let Some(part) = parts.pop() {
@@ -74,7 +61,7 @@ fn cat(mut parts: Items<RawPath>) -> RawPath
 
 /// One path is itself, several are an `Alt`.
 fn alt(mut parts: Items<RawPath>) -> RawPath
-    ensures { result ≡ alt_of parts }
+    ensures { result ≡ one_or_alt parts }
 {
     if parts.len() == 1 {
         if let Some(part) = parts.pop() {
@@ -90,39 +77,34 @@ fn alt(mut parts: Items<RawPath>) -> RawPath
 #[cycle(path_of)]
 fn rep<'a>(
     alloc: Global,
-    bytes: &[u8],
-    tokens: Cursor<'a>,
+    lexemes: Lexemes<'a>,
     room: usize,
     left: usize,
-) -> Result<(RawPath, Cursor<'a>, usize), ReadError>
-    ensures goes { (k : List Awaited) → IsInSequence k → opens k + room ≡ 128 →
-        Reads bytes.now tokens.entry result (at (rep_awaited ∷ k) left)
-        (λ r. r.1) (λ r. at (put_path r.0 k) r.2) }
-    ensures shorter { IfOk result (λ r. length r.1 < length tokens.entry) }
+) -> Read<'a, (RawPath, usize)>
+    ensures reads { (k : List Awaited) → IsInSequence k → opens k + room ≡ MAX_NESTING →
+        Reads (awaiting (rep_awaited ∷ k) left) lexemes.entry result (after_rep k) }
+    ensures shorter { Shortens lexemes.entry result }
 {
     if left == 0 {
-        return Err(ReadError::Syntax(tokens.len()));
+        return Err(ReadError::Syntax(lexemes.len()));
     }
-    let Some((first, rest)) = tokens.split_first() else {
-        return Err(ReadError::Syntax(0));
-    };
-    match first.kind {
-        Kind::Sign(Sign::Bang) if 0 < room => {
-            let (path, rest, left) = rep(alloc, bytes, rest, room - 1, left)?;
-            Ok((RawPath::Not(Boxed::new(alloc, path)?), rest, left))
+    let (first, rest) = next_of(&lexemes)?;
+    match first {
+        Lexeme::Sign(Sign::Bang) if 0 < room => {
+            let ((path, left), rest) = rep(alloc, rest, room - 1, left)?;
+            Ok(((RawPath::Not(Boxed::new(alloc, path)?), left), rest))
         }
-        Kind::Sign(Sign::OpenGroup) if 0 < room => group(alloc, bytes, rest, room - 1, left),
-        Kind::Sign(Sign::Dot) => {
+        Lexeme::Sign(Sign::OpenGroup) if 0 < room => group(alloc, rest, room - 1, left),
+        Lexeme::Sign(Sign::Dot) => {
             let (path, rest) = with_stars(alloc, RawPath::Dot, rest)?;
-            Ok((path, rest, left - 1))
+            Ok(((path, left - 1), rest))
         }
-        Kind::Name => {
-            let name = name_from(alloc, text(bytes, first.span))?;
-            let at = first.span.start;
+        Lexeme::Name(text, at) => {
+            let name = name_from(alloc, text)?;
             let (path, rest) = with_stars(alloc, RawPath::Named { name, at }, rest)?;
-            Ok((path, rest, left - 1))
+            Ok(((path, left - 1), rest))
         }
-        _ => Err(ReadError::Syntax(tokens.len())),
+        _ => Err(ReadError::Syntax(lexemes.len())),
     }
 }
 
@@ -131,36 +113,33 @@ fn rep<'a>(
 #[cycle(path_of)]
 fn group<'a>(
     alloc: Global,
-    bytes: &[u8],
-    tokens: Cursor<'a>,
+    lexemes: Lexemes<'a>,
     room: usize,
     left: usize,
-) -> Result<(RawPath, Cursor<'a>, usize), ReadError>
-    ensures goes { (k : List Awaited) → IsInSequence k → opens k + 1 + room ≡ 128 →
-        Reads bytes.now tokens.entry result (at (path_awaited (path_bracket ∷ k)) left)
-        (λ r. r.1) (λ r. at (put_path r.0 k) r.2) }
-    ensures shorter { IfOk result (λ r. length r.1 < length tokens.entry) }
+) -> Read<'a, (RawPath, usize)>
+    ensures reads { (k : List Awaited) → IsInSequence k → opens k + 1 + room ≡ MAX_NESTING →
+        Reads (awaiting (path_awaited (path_bracket ∷ k)) left) lexemes.entry result
+        (after_rep k) }
+    ensures shorter { Shortens lexemes.entry result }
 {
-    let (path, rest, left) = path_of(alloc, bytes, tokens, room, left)?;
-    let Some((first, after)) = rest.split_first() else {
-        return Err(ReadError::Syntax(0));
-    };
-    match first.kind {
-        Kind::Sign(Sign::CloseGroup) => {
+    let ((path, left), rest) = path_of(alloc, lexemes, room, left)?;
+    let (first, after) = next_of(&rest)?;
+    match first {
+        Lexeme::Sign(Sign::CloseGroup) => {
             let (path, rest) = with_stars(alloc, path, after)?;
-            Ok((path, rest, left))
+            Ok(((path, left), rest))
         }
         _ => Err(ReadError::Syntax(rest.len())),
     }
 }
 
-fn begins_rep(tokens: &Cursor<'_>) -> bool
-    ensures { (bytes : List ℕ) → result ≡ begins_list (lexemes bytes tokens.now) }
+fn begins_rep(lexemes: &Lexemes<'_>) -> bool
+    ensures { result ≡ begins_list lexemes.now }
 {
-    match tokens.split_first() {
+    match lexemes.split_first() {
         Some((first, _rest)) => matches!(
-            first.kind,
-            Kind::Name | Kind::Sign(Sign::Bang | Sign::OpenGroup | Sign::Dot)
+            first,
+            Lexeme::Name(_, _) | Lexeme::Sign(Sign::Bang | Sign::OpenGroup | Sign::Dot)
         ),
         None => false,
     }
@@ -171,26 +150,25 @@ fn begins_rep(tokens: &Cursor<'_>) -> bool
 #[cycle(path_of)]
 fn sequence<'a>(
     alloc: Global,
-    bytes: &[u8],
-    tokens: Cursor<'a>,
+    lexemes: Lexemes<'a>,
     room: usize,
     left: usize,
-) -> Result<(RawPath, Cursor<'a>, usize), ReadError>
-    ensures goes { (k : List Awaited) (ps : List RawPath) → opens k + room ≡ 128 →
-        Reads bytes.now tokens.entry result (at (rep_awaited ∷ reps [] ∷ alts ps ∷ k) left)
-        (λ r. r.1) (λ r. at (alts (ps ++ r.0 ∷ []) ∷ k) r.2) }
-    ensures shorter { IfOk result (λ r. length r.1 < length tokens.entry) }
+) -> Read<'a, (RawPath, usize)>
+    ensures reads { (k : List Awaited) (ps : List RawPath) → opens k + room ≡ MAX_NESTING →
+        Reads (awaiting (rep_awaited ∷ reps [] ∷ alts ps ∷ k) left) lexemes.entry result
+        (after_sequence ps k) }
+    ensures shorter { Shortens lexemes.entry result }
 {
     let mut parts = Items::new(alloc);
-    let (path, mut rest, mut spare) = rep(alloc, bytes, tokens, room, left)?;
+    let ((path, mut spare), mut rest) = rep(alloc, lexemes, room, left)?;
     parts.push(path)?;
     'reps: while begins_rep(&rest) {
-        let (path, others, fewer) = rep(alloc, bytes, rest, room, spare)?;
+        let ((path, fewer), others) = rep(alloc, rest, room, spare)?;
         parts.push(path)?;
         rest = others;
         spare = fewer;
     }
-    Ok((cat(parts), rest, spare))
+    Ok(((cat(parts), spare), rest))
 }
 
 /// A path expression: sequences with `|` between them.
@@ -198,31 +176,29 @@ fn sequence<'a>(
 #[cycle(path_of)]
 pub(crate) fn path_of<'a>(
     alloc: Global,
-    bytes: &[u8],
-    tokens: Cursor<'a>,
+    lexemes: Lexemes<'a>,
     room: usize,
     left: usize,
-) -> Result<(RawPath, Cursor<'a>, usize), ReadError>
-    ensures goes { (k : List Awaited) → opens k + room ≡ 128 →
-        Reads bytes.now tokens.entry result (at (path_awaited k) left)
-        (λ r. r.1) (λ r. at (whole_path r.0 ∷ k) r.2) }
-    ensures shorter { IfOk result (λ r. length r.1 < length tokens.entry) }
+) -> Read<'a, (RawPath, usize)>
+    ensures reads { (k : List Awaited) → opens k + room ≡ MAX_NESTING →
+        Reads (awaiting (path_awaited k) left) lexemes.entry result (after_path k) }
+    ensures shorter { Shortens lexemes.entry result }
 {
     let mut parts = Items::new(alloc);
-    let (path, mut rest, mut spare) = sequence(alloc, bytes, tokens, room, left)?;
+    let ((path, mut spare), mut rest) = sequence(alloc, lexemes, room, left)?;
     parts.push(path)?;
     'alternatives: loop {
         let Some((first, after)) = rest.split_first() else {
-            return Ok((alt(parts), rest, spare));
+            return Ok(((alt(parts), spare), rest));
         };
-        match first.kind {
-            Kind::Sign(Sign::Bar) if 0 < spare => {
-                let (path, others, fewer) = sequence(alloc, bytes, after, room, spare)?;
+        match first {
+            Lexeme::Sign(Sign::Bar) if 0 < spare => {
+                let ((path, fewer), others) = sequence(alloc, after, room, spare)?;
                 parts.push(path)?;
                 rest = others;
                 spare = fewer;
             }
-            _ => return Ok((alt(parts), rest, spare)),
+            _ => return Ok(((alt(parts), spare), rest)),
         }
     }
 }

@@ -1,19 +1,19 @@
 //! Predicates.
 
-ghost use Rattle.std.specs.Prelude.{if◌then◌else◌, ◌≡◌, ◌+◌, ◌<◌, ℕ, List, [], ◌∷◌, ◌++◌, IfOk, IfErr, Option, Some, None, length, nat_le};
-ghost use Rattle.merlin_model.specs.declared.policy.Pred.{Pred, Test as Tests};
+ghost use Rattle.std.specs.Prelude.{if◌then◌else◌, ◌≡◌, ◌+◌, ℕ, List, [], ◌∷◌, ◌++◌, IfErr, Option, Some, None, nat_le};
+ghost use Rattle.merlin_model.specs.declared.policy.Pred.{Pred};
 ghost use Rattle.merlin_model.specs.declared.policy.Test.{Test};
 ghost use Rattle.merlin_model.specs.declared.policy.Test.TheVariants.{Port};
-ghost use Rattle.merlin_text.specs.declared.token.Sign.TheVariants as signs;
-ghost use Rattle.policy_grammar.specs.Lexemes.{lexeme};
+ghost use Rattle.merlin_text.specs.ReadLexemes.{as_lexeme};
+ghost use Rattle.policy_grammar.specs.declared.limits.TheConstants.{MAX_NESTING};
 ghost use Rattle.policy_grammar.specs.Predicates.{test_of, block_test as test_of_block, all_of, any_of};
-ghost use Rattle.policy_grammar.specs.Machine.{Awaited, this_sign, literal as literal_awaited, lits, conjs, whole_pred, bracket, second, value_of, is_first as is_first_name, field_at, put, opens, at};
-ghost use Rattle.policy_parser.specs.Goes.{Reads, IsSyntax, pred_awaited};
+ghost use Rattle.policy_grammar.specs.Machine.{Awaited, literal as literal_awaited, lits, conjs, whole_pred, bracket, second, value_of, is_first as is_first_name, field_at, put, opens, awaiting};
+ghost use Rattle.policy_parser.specs.Readers.{Reads, Shortens, Skips, ShortensTo, IsSyntax, pred_awaited, second_awaited, after_field, after_test, after_lit, after_conjunction, after_pred};
 
 use crate::fault::ReadError;
-use crate::signs::{sign_at, text};
+use crate::signs::{Read, next_of, sign_at};
 use merlin_model::policy::{Field, Pred, Test};
-use merlin_text::{Cursor, Kind, Sign, Token, Word};
+use merlin_text::{Lexeme, Lexemes, Sign, Word};
 use policy_grammar::written::Tested;
 use sqlite_items::{Boxed, Items};
 use std::alloc::Global;
@@ -83,99 +83,84 @@ fn block_test(field: Field, value: u32, length: u8) -> Test
     }
 }
 
-/// The test of a field with a value, where the field takes that token.
-fn test_with(field: Tested, value: Token) -> Option<Test>
-    ensures { (bytes : List ℕ) → result ≡ test_of field (lexeme bytes value) }
+/// The test of a field with a value, where the field takes that lexeme.
+fn test_with(field: Tested, value: Lexeme<'_>) -> Option<Test>
+    ensures { result ≡ test_of field (as_lexeme value.entry) }
 {
-    match (field, value.kind) {
-        (Tested::EthSrc, Kind::Mac(value)) => Some(Test::Is {
+    match (field, value) {
+        (Tested::EthSrc, Lexeme::Mac(value)) => Some(Test::Is {
             field: Field::EthSrc,
             value,
         }),
-        (Tested::EthDst, Kind::Mac(value)) => Some(Test::Is {
+        (Tested::EthDst, Lexeme::Mac(value)) => Some(Test::Is {
             field: Field::EthDst,
             value,
         }),
-        (Tested::IpSrc, Kind::Ip(ip)) => Some(Test::Is {
+        (Tested::IpSrc, Lexeme::Ip(ip)) => Some(Test::Is {
             field: Field::IpSrc,
             value: ip as u64,
         }),
-        (Tested::IpDst, Kind::Ip(ip)) => Some(Test::Is {
+        (Tested::IpDst, Lexeme::Ip(ip)) => Some(Test::Is {
             field: Field::IpDst,
             value: ip as u64,
         }),
-        (Tested::IpSrc, Kind::Prefix { value, length }) => {
+        (Tested::IpSrc, Lexeme::Prefix { value, length }) => {
             Some(block_test(Field::IpSrc, value, length))
         }
-        (Tested::IpDst, Kind::Prefix { value, length }) => {
+        (Tested::IpDst, Lexeme::Prefix { value, length }) => {
             Some(block_test(Field::IpDst, value, length))
         }
-        (Tested::IpProto, Kind::Number(n)) if 1 <= n && n <= 255 => Some(Test::Is {
+        (Tested::IpProto, Lexeme::Number(n)) if 1 <= n && n <= 255 => Some(Test::Is {
             field: Field::Proto,
             value: n as u64,
         }),
-        (Tested::TcpSrc, Kind::Number(n)) => port_test(6, Field::Sport, n),
-        (Tested::TcpDst, Kind::Number(n)) => port_test(6, Field::Dport, n),
-        (Tested::UdpSrc, Kind::Number(n)) => port_test(17, Field::Sport, n),
-        (Tested::UdpDst, Kind::Number(n)) => port_test(17, Field::Dport, n),
+        (Tested::TcpSrc, Lexeme::Number(n)) => port_test(6, Field::Sport, n),
+        (Tested::TcpDst, Lexeme::Number(n)) => port_test(6, Field::Dport, n),
+        (Tested::UdpSrc, Lexeme::Number(n)) => port_test(17, Field::Sport, n),
+        (Tested::UdpDst, Lexeme::Number(n)) => port_test(17, Field::Dport, n),
         _ => None,
     }
 }
 
 /// The field whose first name is read, and what follows its second.
-fn field_part<'a>(
-    first: &[u8],
-    bytes: &[u8],
-    tokens: Cursor<'a>,
-) -> Result<(Tested, Cursor<'a>), ReadError>
-    ensures goes { (k : List Awaited) (n : ℕ) →
-        Reads bytes.now tokens.entry result (at (second first.now ∷ k) n)
-        (λ r. r.1) (λ r. at (this_sign signs.Equals ∷ value_of r.0 ∷ k) n) }
-    ensures shorter { IfOk result (λ r. length r.1 < length tokens.entry) }
+fn field_part<'a>(first: &[u8], lexemes: Lexemes<'a>) -> Read<'a, Tested>
+    ensures reads { (k : List Awaited) (n : ℕ) →
+        Reads (awaiting (second first.now ∷ k) n) lexemes.entry result (after_field k n) }
+    ensures shorter { Shortens lexemes.entry result }
     ensures no_memory { IfErr result IsSyntax }
 {
-    let Some((second, rest)) = tokens.split_first() else {
-        return Err(ReadError::Syntax(0));
-    };
-    match second.kind {
-        Kind::Name => match field_of(first, text(bytes, second.span)) {
+    let (second, rest) = next_of(&lexemes)?;
+    match second {
+        Lexeme::Name(text, _) => match field_of(first, text) {
             Some(field) => Ok((field, rest)),
-            None => Err(ReadError::Syntax(tokens.len())),
+            None => Err(ReadError::Syntax(lexemes.len())),
         },
-        _ => Err(ReadError::Syntax(tokens.len())),
+        _ => Err(ReadError::Syntax(lexemes.len())),
     }
 }
 
-fn value_part<'a>(field: Tested, tokens: Cursor<'a>) -> Result<(Test, Cursor<'a>), ReadError>
-    ensures goes { (bytes : List ℕ) (k : List Awaited) (n : ℕ) →
-        Reads bytes tokens.entry result (at (value_of field ∷ k) n)
-        (λ r. r.1) (λ r. at (put (Tests r.0) k) n) }
-    ensures shorter { IfOk result (λ r. length r.1 < length tokens.entry) }
+fn value_part<'a>(field: Tested, lexemes: Lexemes<'a>) -> Read<'a, Test>
+    ensures reads { (k : List Awaited) (n : ℕ) →
+        Reads (awaiting (value_of field ∷ k) n) lexemes.entry result (after_test k n) }
+    ensures shorter { Shortens lexemes.entry result }
     ensures no_memory { IfErr result IsSyntax }
 {
-    let Some((value, rest)) = tokens.split_first() else {
-        return Err(ReadError::Syntax(0));
-    };
+    let (value, rest) = next_of(&lexemes)?;
     match test_with(field, value) {
         Some(test) => Ok((test, rest)),
-        None => Err(ReadError::Syntax(tokens.len())),
+        None => Err(ReadError::Syntax(lexemes.len())),
     }
 }
 
 /// The rest of a test whose first name is read.
-fn test_after<'a>(
-    first: &[u8],
-    bytes: &[u8],
-    tokens: Cursor<'a>,
-) -> Result<(Test, Cursor<'a>), ReadError>
-    ensures goes { (k : List Awaited) (n : ℕ) →
-        Reads bytes.now tokens.entry result (at (this_sign signs.Dot ∷ second first.now ∷ k) n)
-        (λ r. r.1) (λ r. at (put (Tests r.0) k) n) }
-    ensures shorter { IfOk result (λ r. length r.1 < length tokens.entry) }
+fn test_after<'a>(first: &[u8], lexemes: Lexemes<'a>) -> Read<'a, Test>
+    ensures reads { (k : List Awaited) (n : ℕ) →
+        Reads (awaiting (second_awaited first.now k) n) lexemes.entry result (after_test k n) }
+    ensures shorter { Shortens lexemes.entry result }
     ensures no_memory { IfErr result IsSyntax }
 {
-    let rest = sign_at(Sign::Dot, tokens)?;
-    let (field, rest) = field_part(first, bytes, rest)?;
+    let rest = sign_at(Sign::Dot, lexemes)?;
+    let (field, rest) = field_part(first, rest)?;
     let rest = sign_at(Sign::Equals, rest)?;
     value_part(field, rest)
 }
@@ -205,19 +190,17 @@ fn any(mut parts: Items<Pred>) -> Pred
 }
 
 /// What follows the bracket that closes a predicate.
-fn after_bracket<'a>(tokens: Cursor<'a>) -> Result<Cursor<'a>, ReadError>
-    ensures goes { (bytes : List ℕ) (pred : Pred) (k : List Awaited) (n : ℕ) →
-        Reads bytes tokens.entry result (at (whole_pred pred ∷ bracket ∷ k) n)
-        (λ r. r) (λ r. at (put pred k) n) }
-    ensures shorter { IfOk result (λ r. length r < length tokens.entry) }
+fn after_bracket<'a>(lexemes: Lexemes<'a>) -> Result<Lexemes<'a>, ReadError>
+    ensures reads { (pred : Pred) (k : List Awaited) (n : ℕ) →
+        Skips (awaiting (whole_pred pred ∷ bracket ∷ k) n) lexemes.entry result
+        (awaiting (put pred k) n) }
+    ensures shorter { ShortensTo lexemes.entry result }
     ensures no_memory { IfErr result IsSyntax }
 {
-    let Some((first, rest)) = tokens.split_first() else {
-        return Err(ReadError::Syntax(0));
-    };
-    match first.kind {
-        Kind::Sign(Sign::CloseGroup) => Ok(rest),
-        _ => Err(ReadError::Syntax(tokens.len())),
+    let (first, rest) = next_of(&lexemes)?;
+    match first {
+        Lexeme::Sign(Sign::CloseGroup) => Ok(rest),
+        _ => Err(ReadError::Syntax(lexemes.len())),
     }
 }
 
@@ -226,35 +209,31 @@ fn after_bracket<'a>(tokens: Cursor<'a>) -> Result<Cursor<'a>, ReadError>
 #[cycle(predicate)]
 fn literal<'a>(
     alloc: Global,
-    bytes: &[u8],
-    tokens: Cursor<'a>,
+    lexemes: Lexemes<'a>,
     room: usize,
     left: usize,
-) -> Result<(Pred, Cursor<'a>, usize), ReadError>
-    ensures goes { (k : List Awaited) → opens k + room ≡ 128 →
-        Reads bytes.now tokens.entry result (at (literal_awaited ∷ k) left)
-        (λ r. r.1) (λ r. at (put r.0 k) r.2) }
-    ensures shorter { IfOk result (λ r. length r.1 < length tokens.entry) }
+) -> Read<'a, (Pred, usize)>
+    ensures reads { (k : List Awaited) → opens k + room ≡ MAX_NESTING →
+        Reads (awaiting (literal_awaited ∷ k) left) lexemes.entry result (after_lit k) }
+    ensures shorter { Shortens lexemes.entry result }
 {
-    let Some((first, rest)) = tokens.split_first() else {
-        return Err(ReadError::Syntax(0));
-    };
-    match first.kind {
-        Kind::Sign(Sign::Bang) if 0 < room => {
-            let (pred, rest, left) = literal(alloc, bytes, rest, room - 1, left)?;
-            Ok((Pred::Not(Boxed::new(alloc, pred)?), rest, left))
+    let (first, rest) = next_of(&lexemes)?;
+    match first {
+        Lexeme::Sign(Sign::Bang) if 0 < room => {
+            let ((pred, left), rest) = literal(alloc, rest, room - 1, left)?;
+            Ok(((Pred::Not(Boxed::new(alloc, pred)?), left), rest))
         }
-        Kind::Sign(Sign::OpenGroup) if 0 < room => {
-            let (pred, rest, left) = predicate(alloc, bytes, rest, room - 1, left)?;
-            Ok((pred, after_bracket(rest)?, left))
+        Lexeme::Sign(Sign::OpenGroup) if 0 < room => {
+            let ((pred, left), rest) = predicate(alloc, rest, room - 1, left)?;
+            Ok(((pred, left), after_bracket(rest)?))
         }
-        Kind::Word(Word::True) => Ok((Pred::Yes, rest, left)),
-        Kind::Word(Word::False) => Ok((Pred::No, rest, left)),
-        Kind::Name if 0 < left && is_first(text(bytes, first.span)) => {
-            let (test, rest) = test_after(text(bytes, first.span), bytes, rest)?;
-            Ok((Pred::Test(test), rest, left - 1))
+        Lexeme::Word(Word::True) => Ok(((Pred::Yes, left), rest)),
+        Lexeme::Word(Word::False) => Ok(((Pred::No, left), rest)),
+        Lexeme::Name(text, _) if 0 < left && is_first(text) => {
+            let (test, rest) = test_after(text, rest)?;
+            Ok(((Pred::Test(test), left - 1), rest))
         }
-        _ => Err(ReadError::Syntax(tokens.len())),
+        _ => Err(ReadError::Syntax(lexemes.len())),
     }
 }
 
@@ -262,69 +241,47 @@ fn literal<'a>(
 #[cycle(predicate)]
 fn conjunction<'a>(
     alloc: Global,
-    bytes: &[u8],
-    tokens: Cursor<'a>,
+    lexemes: Lexemes<'a>,
     room: usize,
     left: usize,
-) -> Result<(Pred, Cursor<'a>, usize), ReadError>
-    ensures goes { (k : List Awaited) (ps : List Pred) → opens k + room ≡ 128 →
-        Reads bytes.now tokens.entry result
-        (at (literal_awaited ∷ lits [] ∷ conjs ps ∷ k) left)
-        (λ r. r.1) (λ r. at (conjs (ps ++ r.0 ∷ []) ∷ k) r.2) }
-    ensures shorter { IfOk result (λ r. length r.1 < length tokens.entry) }
+) -> Read<'a, (Pred, usize)>
+    ensures reads { (k : List Awaited) (ps : List Pred) → opens k + room ≡ MAX_NESTING →
+        Reads (awaiting (literal_awaited ∷ lits [] ∷ conjs ps ∷ k) left) lexemes.entry result
+        (after_conjunction ps k) }
+    ensures shorter { Shortens lexemes.entry result }
 {
     let mut parts = Items::new(alloc);
-    let (pred, mut rest, mut spare) = literal(alloc, bytes, tokens, room, left)?;
+    let ((pred, mut spare), mut rest) = literal(alloc, lexemes, room, left)?;
     parts.push(pred)?;
-    'literals: while let Some(
-        (
-            Token {
-                kind: Kind::Word(Word::And),
-                ..
-            },
-            others,
-        ),
-    ) = rest.split_first()
-    {
-        let (pred, others, fewer) = literal(alloc, bytes, others, room, spare)?;
+    'literals: while let Some((Lexeme::Word(Word::And), others)) = rest.split_first() {
+        let ((pred, fewer), others) = literal(alloc, others, room, spare)?;
         parts.push(pred)?;
         rest = others;
         spare = fewer;
     }
-    Ok((all(parts), rest, spare))
+    Ok(((all(parts), spare), rest))
 }
 
 /// A predicate: conjunctions with `or` between them.
 #[cycle(predicate)]
 pub(crate) fn predicate<'a>(
     alloc: Global,
-    bytes: &[u8],
-    tokens: Cursor<'a>,
+    lexemes: Lexemes<'a>,
     room: usize,
     left: usize,
-) -> Result<(Pred, Cursor<'a>, usize), ReadError>
-    ensures goes { (k : List Awaited) → opens k + room ≡ 128 →
-        Reads bytes.now tokens.entry result (at (pred_awaited k) left)
-        (λ r. r.1) (λ r. at (whole_pred r.0 ∷ k) r.2) }
-    ensures shorter { IfOk result (λ r. length r.1 < length tokens.entry) }
+) -> Read<'a, (Pred, usize)>
+    ensures reads { (k : List Awaited) → opens k + room ≡ MAX_NESTING →
+        Reads (awaiting (pred_awaited k) left) lexemes.entry result (after_pred k) }
+    ensures shorter { Shortens lexemes.entry result }
 {
     let mut parts = Items::new(alloc);
-    let (pred, mut rest, mut spare) = conjunction(alloc, bytes, tokens, room, left)?;
+    let ((pred, mut spare), mut rest) = conjunction(alloc, lexemes, room, left)?;
     parts.push(pred)?;
-    'conjunctions: while let Some(
-        (
-            Token {
-                kind: Kind::Word(Word::Or),
-                ..
-            },
-            others,
-        ),
-    ) = rest.split_first()
-    {
-        let (pred, others, fewer) = conjunction(alloc, bytes, others, room, spare)?;
+    'conjunctions: while let Some((Lexeme::Word(Word::Or), others)) = rest.split_first() {
+        let ((pred, fewer), others) = conjunction(alloc, others, room, spare)?;
         parts.push(pred)?;
         rest = others;
         spare = fewer;
     }
-    Ok((any(parts), rest, spare))
+    Ok(((any(parts), spare), rest))
 }

@@ -1,27 +1,23 @@
-//! A whole policy from its tokens.
+//! A whole policy from its lexemes.
 
-ghost use Rattle.policy_grammar.specs.Machine.{start};
-ghost use Rattle.policy_parser.specs.Goes.{ReadsAll};
+ghost use Rattle.policy_grammar.specs.Machine.{first_state};
+ghost use Rattle.policy_parser.specs.Readers.{ReadsAll};
 
 use crate::fault::ReadError;
 use crate::items::items;
 use crate::sets::sets;
 use crate::terms::formula_of;
-use merlin_text::Cursor;
+use merlin_text::Lexemes;
 use policy_grammar::written::WrittenPolicy;
 use std::alloc::Global;
 
-/// The policy as it is written, or how many tokens are left where no policy goes on.
-pub fn read_policy(
-    alloc: Global,
-    bytes: &[u8],
-    tokens: Cursor<'_>,
-) -> Result<WrittenPolicy, ReadError>
-    ensures { ReadsAll bytes.now tokens.entry result start (λ policy. policy) }
+/// The policy as it is written, or how many lexemes are left where no policy goes on.
+pub fn read_policy(alloc: Global, lexemes: Lexemes<'_>) -> Result<WrittenPolicy, ReadError>
+    ensures { ReadsAll first_state lexemes.entry result (λ policy. policy) }
 {
-    let (sets, rest) = sets(alloc, bytes, tokens)?;
-    let (items, default_path, rest) = items(alloc, bytes, rest)?;
-    let terms = formula_of(alloc, bytes, rest)?;
+    let (sets, rest) = sets(alloc, lexemes)?;
+    let ((items, default_path), rest) = items(alloc, rest)?;
+    let terms = formula_of(alloc, rest)?;
     Ok(WrittenPolicy {
         sets,
         items,

@@ -1,156 +1,134 @@
-//! Readers of one token, of which recursive descent is made: each takes the tokens from its phrase on, and gives those after it.
+//! Readers of one lexeme, of which recursive descent is made: each takes the lexemes from its phrase on, and gives those after it.
 
-ghost use Rattle.std.specs.Prelude.{◌≡◌, ◌<◌, ℕ, List, [], ◌∷◌, IfOk, IfErr, Some, length};
+ghost use Rattle.std.specs.Prelude.{◌≡◌, ◌==◌, ℕ, List, [], ◌∷◌, IfOk, IfErr};
 ghost use Rattle.merlin_model.specs.declared.policy.Bound.{Bound};
 ghost use Rattle.merlin_model.specs.declared.policy.Part.{Part};
-ghost use Rattle.merlin_text.specs.declared.token.Sign.TheVariants as signs;
+ghost use Rattle.merlin_text.specs.ReadLexemes.{as_lexeme};
 ghost use Rattle.policy_grammar.specs.declared.written.WrittenPolicy.{WrittenPolicy};
-ghost use Rattle.policy_grammar.specs.Machine.{Awaited, Head, Opened, this_sign, this_word, any_name, outer_set, inner_set, each_id, heading_of, limit, limit_rate, limit_rest, with_limit, term, leading, term_rate, terms_rest, with_term, sign_number, word_number, at};
-ghost use Rattle.policy_parser.specs.Goes.{Reads, IsSyntax, text_in, statement_awaited, each_id_awaited, closing};
+ghost use Rattle.policy_grammar.specs.Machine.{Awaited, Head, Opened, this_sign, this_word, any_name, outer_set, inner_set, each_id, limit, limit_rate, term, sign_number, word_number, awaiting};
+ghost use Rattle.policy_parser.specs.declared.fault.ReadError.TheVariants as errors;
+ghost use Rattle.policy_parser.specs.Readers.{Reads, Shortens, Skips, ShortensTo, IsSyntax, alone, after_outer, after_inner, after_each_id, after_bound, after_rate, after_sum, after_term_bound, after_term_rate};
 
 use crate::fault::ReadError;
 use merlin_model::name::{Name, name_from};
 use merlin_model::policy::Bound;
-use merlin_text::{Cursor, Kind, Sign, Span, Word};
+use merlin_text::{Lexeme, Lexemes, Sign, Word};
 use std::alloc::Global;
 
-/// The bytes of a token; none where its ends are none of the text.
-pub(crate) fn text(bytes: &[u8], span: Span) -> &[u8]
-    ensures { result.now ≡ text_in bytes.now span }
+/// What a reader gives: the value of its phrase and the lexemes after it.
+pub(crate) type Read<'a, T> = Result<(T, Lexemes<'a>), ReadError>;
+
+/// The next lexeme, and those after it: where none is left, no policy goes on.
+pub(crate) fn next_of<'a>(lexemes: &Lexemes<'a>) -> Read<'a, Lexeme<'a>>
+    ensures some { IfOk result (λ read. lexemes.now ≡ as_lexeme read.0 ∷ read.1) }
+    ensures none { IfErr result (λ error. (lexemes.now ≡ []) × (error ≡ errors.Syntax 0)) }
 {
-    if span.start <= span.end && span.end <= bytes.len() {
-        &bytes[span.start..span.end]
-    } else {
-        &[]
+    match lexemes.split_first() {
+        Some((first, rest)) => Ok((first, rest)),
+        None => Err(ReadError::Syntax(0)),
     }
 }
 
-fn number_of_sign(sign: Sign) -> u8
-    ensures { result ≡ sign_number sign }
+fn is_sign(found: Sign, sign: Sign) -> bool
+    ensures { result ≡ (sign_number sign == sign_number found) }
 {
-    sign as u8
+    found == sign
 }
 
-fn number_of_word(word: Word) -> u8
-    ensures { result ≡ word_number word }
+fn is_word(found: Word, word: Word) -> bool
+    ensures { result ≡ (word_number word == word_number found) }
 {
-    word as u8
+    found == word
 }
 
 /// What follows this sign.
-pub(crate) fn sign_at<'a>(sign: Sign, tokens: Cursor<'a>) -> Result<Cursor<'a>, ReadError>
-    ensures goes { (bytes : List ℕ) (k : List Awaited) (n : ℕ) →
-        Reads bytes tokens.entry result (at (this_sign sign ∷ k) n)
-        (λ r. r) (λ r. at k n) }
-    ensures shorter { IfOk result (λ r. length r < length tokens.entry) }
+pub(crate) fn sign_at<'a>(sign: Sign, lexemes: Lexemes<'a>) -> Result<Lexemes<'a>, ReadError>
+    ensures reads { (k : List Awaited) (n : ℕ) →
+        Skips (awaiting (this_sign sign ∷ k) n) lexemes.entry result (awaiting k n) }
+    ensures shorter { ShortensTo lexemes.entry result }
     ensures no_memory { IfErr result IsSyntax }
 {
-    let Some((first, rest)) = tokens.split_first() else {
-        return Err(ReadError::Syntax(0));
-    };
-    match first.kind {
-        Kind::Sign(found) if number_of_sign(sign) == number_of_sign(found) => Ok(rest),
-        _ => Err(ReadError::Syntax(tokens.len())),
+    let (first, rest) = next_of(&lexemes)?;
+    match first {
+        Lexeme::Sign(found) if is_sign(found, sign) => Ok(rest),
+        _ => Err(ReadError::Syntax(lexemes.len())),
     }
 }
 
 /// What follows this word.
-pub(crate) fn word_at<'a>(word: Word, tokens: Cursor<'a>) -> Result<Cursor<'a>, ReadError>
-    ensures goes { (bytes : List ℕ) (k : List Awaited) (n : ℕ) →
-        Reads bytes tokens.entry result (at (this_word word ∷ k) n)
-        (λ r. r) (λ r. at k n) }
-    ensures shorter { IfOk result (λ r. length r < length tokens.entry) }
+pub(crate) fn word_at<'a>(word: Word, lexemes: Lexemes<'a>) -> Result<Lexemes<'a>, ReadError>
+    ensures reads { (k : List Awaited) (n : ℕ) →
+        Skips (awaiting (this_word word ∷ k) n) lexemes.entry result (awaiting k n) }
+    ensures shorter { ShortensTo lexemes.entry result }
     ensures no_memory { IfErr result IsSyntax }
 {
-    let Some((first, rest)) = tokens.split_first() else {
-        return Err(ReadError::Syntax(0));
-    };
-    match first.kind {
-        Kind::Word(found) if number_of_word(word) == number_of_word(found) => Ok(rest),
-        _ => Err(ReadError::Syntax(tokens.len())),
+    let (first, rest) = next_of(&lexemes)?;
+    match first {
+        Lexeme::Word(found) if is_word(found, word) => Ok(rest),
+        _ => Err(ReadError::Syntax(lexemes.len())),
     }
 }
 
 /// What follows a name, whatever it is.
-pub(crate) fn any_name_at<'a>(tokens: Cursor<'a>) -> Result<Cursor<'a>, ReadError>
-    ensures goes { (bytes : List ℕ) (k : List Awaited) (n : ℕ) →
-        Reads bytes tokens.entry result (at (any_name ∷ k) n)
-        (λ r. r) (λ r. at k n) }
-    ensures shorter { IfOk result (λ r. length r < length tokens.entry) }
+pub(crate) fn any_name_at<'a>(lexemes: Lexemes<'a>) -> Result<Lexemes<'a>, ReadError>
+    ensures reads { (k : List Awaited) (n : ℕ) →
+        Skips (awaiting (any_name ∷ k) n) lexemes.entry result (awaiting k n) }
+    ensures shorter { ShortensTo lexemes.entry result }
     ensures no_memory { IfErr result IsSyntax }
 {
-    let Some((first, rest)) = tokens.split_first() else {
-        return Err(ReadError::Syntax(0));
-    };
-    match first.kind {
-        Kind::Name => Ok(rest),
-        _ => Err(ReadError::Syntax(tokens.len())),
+    let (first, rest) = next_of(&lexemes)?;
+    match first {
+        Lexeme::Name(_, _) => Ok(rest),
+        _ => Err(ReadError::Syntax(lexemes.len())),
     }
 }
 
 /// The name of a set after `cross`, or the id of its statement, and what follows it.
-pub(crate) fn name_at<'a>(
-    alloc: Global,
-    bytes: &[u8],
-    tokens: Cursor<'a>,
-) -> Result<(Name, Cursor<'a>), ReadError>
+pub(crate) fn name_at<'a>(alloc: Global, lexemes: Lexemes<'a>) -> Read<'a, Name>
     ensures outer { (h : Head) →
-        Reads bytes.now tokens.entry result (at (outer_set h ∷ []) 0)
-        (λ r. r.1) (λ r. at (this_sign signs.Comma ∷ inner_set h r.0 ∷ []) 0) }
+        Reads (alone (outer_set h)) lexemes.entry result (after_outer h) }
     ensures inner { (h : Head) (outer : List ℕ) →
-        Reads bytes.now tokens.entry result (at (inner_set h outer ∷ []) 0)
-        (λ r. r.1) (λ r. at (each_id_awaited h outer r.0) 0) }
+        Reads (alone (inner_set h outer)) lexemes.entry result (after_inner h outer) }
     ensures id { (h : Head) (outer inner : List ℕ) →
-        Reads bytes.now tokens.entry result (at (each_id h outer inner ∷ []) 0)
-        (λ r. r.1) (λ r. statement_awaited (heading_of h (Some (outer, inner)) r.0)) }
-    ensures shorter { IfOk result (λ r. length r.1 < length tokens.entry) }
+        Reads (alone (each_id h outer inner)) lexemes.entry result (after_each_id h outer inner) }
+    ensures shorter { Shortens lexemes.entry result }
 {
-    let Some((first, rest)) = tokens.split_first() else {
-        return Err(ReadError::Syntax(0));
-    };
-    match first.kind {
-        Kind::Name => Ok((name_from(alloc, text(bytes, first.span))?, rest)),
-        _ => Err(ReadError::Syntax(tokens.len())),
+    let (first, rest) = next_of(&lexemes)?;
+    match first {
+        Lexeme::Name(text, _) => Ok((name_from(alloc, text)?, rest)),
+        _ => Err(ReadError::Syntax(lexemes.len())),
     }
 }
 
 /// The bound of a limit or a term, and what follows it.
-pub(crate) fn bound_at<'a>(tokens: Cursor<'a>) -> Result<(Bound, Cursor<'a>), ReadError>
-    ensures limit { (bytes : List ℕ) (o : Opened) →
-        Reads bytes tokens.entry result (at (limit o ∷ []) 0)
-        (λ r. r.1) (λ r. at (this_sign signs.OpenGroup ∷ limit_rate o r.0 ∷ []) 0) }
-    ensures term { (bytes : List ℕ) (w : WrittenPolicy) →
-        Reads bytes tokens.entry result (at (term w ∷ []) 0)
-        (λ r. r.1) (λ r. at (this_sign signs.OpenGroup ∷ leading w r.0 [] ∷ []) 0) }
-    ensures shorter { IfOk result (λ r. length r.1 < length tokens.entry) }
+pub(crate) fn bound_at<'a>(lexemes: Lexemes<'a>) -> Read<'a, Bound>
+    ensures limit { (o : Opened) →
+        Reads (alone (limit o)) lexemes.entry result (after_bound o) }
+    ensures term { (w : WrittenPolicy) →
+        Reads (alone (term w)) lexemes.entry result (after_term_bound w) }
+    ensures shorter { Shortens lexemes.entry result }
     ensures no_memory { IfErr result IsSyntax }
 {
-    let Some((first, rest)) = tokens.split_first() else {
-        return Err(ReadError::Syntax(0));
-    };
-    match first.kind {
-        Kind::Word(Word::Max) => Ok((Bound::Max, rest)),
-        Kind::Word(Word::Min) => Ok((Bound::Min, rest)),
-        _ => Err(ReadError::Syntax(tokens.len())),
+    let (first, rest) = next_of(&lexemes)?;
+    match first {
+        Lexeme::Word(Word::Max) => Ok((Bound::Max, rest)),
+        Lexeme::Word(Word::Min) => Ok((Bound::Min, rest)),
+        _ => Err(ReadError::Syntax(lexemes.len())),
     }
 }
 
 /// The rate of a limit or a term, and what follows it.
-pub(crate) fn rate_at<'a>(tokens: Cursor<'a>) -> Result<(u64, Cursor<'a>), ReadError>
-    ensures limit { (bytes : List ℕ) (o : Opened) (b : Bound) →
-        Reads bytes tokens.entry result (at (limit_rate o b ∷ []) 0)
-        (λ r. r.1) (λ r. closing (limit_rest (with_limit o b r.0))) }
-    ensures term { (bytes : List ℕ) (w : WrittenPolicy) (b : Bound) (parts : List Part) →
-        Reads bytes tokens.entry result (at (term_rate w b parts ∷ []) 0)
-        (λ r. r.1) (λ r. closing (terms_rest (with_term w b parts r.0))) }
-    ensures shorter { IfOk result (λ r. length r.1 < length tokens.entry) }
+pub(crate) fn rate_at<'a>(lexemes: Lexemes<'a>) -> Read<'a, u64>
+    ensures limit { (o : Opened) (b : Bound) →
+        Reads (alone (limit_rate o b)) lexemes.entry result (after_rate o b) }
+    ensures term { (w : WrittenPolicy) (b : Bound) (parts : List Part) →
+        Reads (after_sum w b parts) lexemes.entry result (after_term_rate w b parts) }
+    ensures shorter { Shortens lexemes.entry result }
     ensures no_memory { IfErr result IsSyntax }
 {
-    let Some((first, rest)) = tokens.split_first() else {
-        return Err(ReadError::Syntax(0));
-    };
-    match first.kind {
-        Kind::Rate(rate) => Ok((rate, rest)),
-        _ => Err(ReadError::Syntax(tokens.len())),
+    let (first, rest) = next_of(&lexemes)?;
+    match first {
+        Lexeme::Rate(rate) => Ok((rate, rest)),
+        _ => Err(ReadError::Syntax(lexemes.len())),
     }
 }

@@ -1,6 +1,6 @@
 //! Terms of the bandwidth formula.
 
-ghost use Rattle.std.specs.Prelude.{◌≡◌, ◌<◌, ◌≤◌, ℕ, List, [], ◌∷◌, ◌++◌, IfOk, IfErr, IfSome, Option, Result, Ok, length};
+ghost use Rattle.std.specs.Prelude.{◌≡◌, ◌<◌, ◌≤◌, ℕ, List, [], ◌∷◌, ◌++◌, IfOk, IfErr, IfSome, Option, length};
 ghost use Rattle.merlin_model.specs.declared.policy.Bound.{Bound};
 ghost use Rattle.merlin_model.specs.declared.policy.Part.{Part};
 ghost use Rattle.merlin_model.specs.declared.policy.Term.{Term};
@@ -8,42 +8,34 @@ ghost use Rattle.policy_grammar.specs.declared.written.Item.{Item};
 ghost use Rattle.policy_grammar.specs.declared.written.RawPath.{RawPath};
 ghost use Rattle.policy_grammar.specs.declared.written.WrittenPolicy.{WrittenPolicy};
 ghost use Rattle.policy_grammar.specs.declared.written.WrittenSet.{WrittenSet};
-ghost use Rattle.policy_grammar.specs.Lexemes.{lexemes};
-ghost use Rattle.policy_grammar.specs.Machine.{formula, terms_rest, term as term_awaited, leading, sum_rest, summand, term_rate, with_term, run, at};
-ghost use Rattle.policy_parser.specs.Goes.{Goes, Reads, ReadsAll, IsSyntax, policy_of, more_terms};
+ghost use Rattle.policy_grammar.specs.Machine.{terms_rest, term as any_term, leading, summand, run};
+ghost use Rattle.policy_parser.specs.Readers.{AgreesWithRun, Reads, Shortens, ReadsAll, IsSyntax, alone, policy_with, after_list, term_awaited, after_leading, after_summand, after_sum, after_term, more_terms};
 
 use crate::fault::ReadError;
-use crate::signs::{bound_at, rate_at, sign_at, text};
+use crate::signs::{Read, bound_at, next_of, rate_at, sign_at};
 use merlin_model::name::name_from;
 use merlin_model::policy::{Part, Term};
-use merlin_text::{Cursor, Kind, Sign, Word};
+use merlin_text::{Lexeme, Lexemes, Sign, Word};
 use sqlite_items::Items;
 use std::alloc::Global;
 
 /// The rates before the first id, and that id.
-fn leading_part<'a>(
-    alloc: Global,
-    bytes: &[u8],
-    tokens: Cursor<'a>,
-) -> Result<(Items<Part>, Cursor<'a>), ReadError>
-    ensures goes { (w : WrittenPolicy) (b : Bound) →
-        Reads bytes.now tokens.entry result (at (leading w b [] ∷ []) 0)
-        (λ r. r.1) (λ r. at (sum_rest w b r.0 ∷ []) 0) }
-    ensures shorter { IfOk result (λ r. length r.1 < length tokens.entry) }
+fn leading_part<'a>(alloc: Global, lexemes: Lexemes<'a>) -> Read<'a, Items<Part>>
+    ensures reads { (w : WrittenPolicy) (b : Bound) →
+        Reads (alone (leading w b [])) lexemes.entry result (after_leading w b) }
+    ensures shorter { Shortens lexemes.entry result }
 {
     let mut parts = Items::new(alloc);
-    let mut rest = tokens;
+    let mut rest = lexemes;
     'rates: loop {
-        let Some((first, others)) = rest.split_first() else {
-            return Err(ReadError::Syntax(0));
-        };
-        match first.kind {
-            Kind::Rate(rate) => {
+        let (first, others) = next_of(&rest)?;
+        match first {
+            Lexeme::Rate(rate) => {
                 parts.push(Part::Constant(rate))?;
                 rest = sign_at(Sign::Plus, others)?;
             }
-            Kind::Name => {
-                parts.push(Part::Id(name_from(alloc, text(bytes, first.span))?))?;
+            Lexeme::Name(text, _) => {
+                parts.push(Part::Id(name_from(alloc, text)?))?;
                 return Ok((parts, others));
             }
             _ => return Err(ReadError::Syntax(rest.len())),
@@ -52,105 +44,80 @@ fn leading_part<'a>(
 }
 
 /// A part after `+`, and what follows it.
-fn summand_at<'a>(
-    alloc: Global,
-    bytes: &[u8],
-    tokens: Cursor<'a>,
-) -> Result<(Part, Cursor<'a>), ReadError>
-    ensures goes { (w : WrittenPolicy) (b : Bound) (parts : List Part) →
-        Reads bytes.now tokens.entry result (at (summand w b parts ∷ []) 0)
-        (λ r. r.1) (λ r. at (sum_rest w b (parts ++ r.0 ∷ []) ∷ []) 0) }
-    ensures shorter { IfOk result (λ r. length r.1 < length tokens.entry) }
+fn summand_at<'a>(alloc: Global, lexemes: Lexemes<'a>) -> Read<'a, Part>
+    ensures reads { (w : WrittenPolicy) (b : Bound) (parts : List Part) →
+        Reads (alone (summand w b parts)) lexemes.entry result (after_summand w b parts) }
+    ensures shorter { Shortens lexemes.entry result }
 {
-    let Some((first, rest)) = tokens.split_first() else {
-        return Err(ReadError::Syntax(0));
-    };
-    match first.kind {
-        Kind::Rate(rate) => Ok((Part::Constant(rate), rest)),
-        Kind::Name => Ok((Part::Id(name_from(alloc, text(bytes, first.span))?), rest)),
-        _ => Err(ReadError::Syntax(tokens.len())),
+    let (first, rest) = next_of(&lexemes)?;
+    match first {
+        Lexeme::Rate(rate) => Ok((Part::Constant(rate), rest)),
+        Lexeme::Name(text, _) => Ok((Part::Id(name_from(alloc, text)?), rest)),
+        _ => Err(ReadError::Syntax(lexemes.len())),
     }
 }
 
 /// The sum of a term, up to the comma before its rate.
-fn sum<'a>(
-    alloc: Global,
-    bytes: &[u8],
-    tokens: Cursor<'a>,
-) -> Result<(Items<Part>, Cursor<'a>), ReadError>
-    ensures goes { (w : WrittenPolicy) (b : Bound) →
-        Reads bytes.now tokens.entry result (at (leading w b [] ∷ []) 0)
-        (λ r. r.1) (λ r. at (term_rate w b r.0 ∷ []) 0) }
-    ensures shorter { IfOk result (λ r. length r.1 < length tokens.entry) }
+fn sum<'a>(alloc: Global, lexemes: Lexemes<'a>) -> Read<'a, Items<Part>>
+    ensures reads { (w : WrittenPolicy) (b : Bound) →
+        Reads (alone (leading w b [])) lexemes.entry result (after_sum w b) }
+    ensures shorter { Shortens lexemes.entry result }
 {
-    let (mut parts, mut rest) = leading_part(alloc, bytes, tokens)?;
+    let (mut parts, mut rest) = leading_part(alloc, lexemes)?;
     'summands: loop {
-        let Some((first, others)) = rest.split_first() else {
-            return Err(ReadError::Syntax(0));
-        };
-        match first.kind {
-            Kind::Sign(Sign::Plus) => {
-                let (part, others) = summand_at(alloc, bytes, others)?;
+        let (first, others) = next_of(&rest)?;
+        match first {
+            Lexeme::Sign(Sign::Plus) => {
+                let (part, others) = summand_at(alloc, others)?;
                 parts.push(part)?;
                 rest = others;
             }
-            Kind::Sign(Sign::Comma) => return Ok((parts, others)),
+            Lexeme::Sign(Sign::Comma) => return Ok((parts, others)),
             _ => return Err(ReadError::Syntax(rest.len())),
         }
     }
 }
 
 /// A term, and what follows it.
-fn term<'a>(
-    alloc: Global,
-    bytes: &[u8],
-    tokens: Cursor<'a>,
-) -> Result<(Term, Cursor<'a>), ReadError>
-    ensures goes { (w : WrittenPolicy) →
-        Reads bytes.now tokens.entry result (at (term_awaited w ∷ []) 0)
-        (λ r. r.1) (λ r. at (terms_rest (with_term w r.0.bound r.0.parts r.0.rate) ∷ []) 0) }
-    ensures shorter { IfOk result (λ r. length r.1 < length tokens.entry) }
+fn term<'a>(alloc: Global, lexemes: Lexemes<'a>) -> Read<'a, Term>
+    ensures reads { (w : WrittenPolicy) →
+        Reads (alone (any_term w)) lexemes.entry result (after_term w) }
+    ensures shorter { Shortens lexemes.entry result }
 {
-    let (bound, rest) = bound_at(tokens)?;
+    let (bound, rest) = bound_at(lexemes)?;
     let rest = sign_at(Sign::OpenGroup, rest)?;
-    let (parts, rest) = sum(alloc, bytes, rest)?;
+    let (parts, rest) = sum(alloc, rest)?;
     let (rate, rest) = rate_at(rest)?;
     let rest = sign_at(Sign::CloseGroup, rest)?;
     Ok((Term { bound, parts, rate }, rest))
 }
 
 /// What follows `and`, if another term stands after this one. None at the end of the text.
-fn next_term<'a>(tokens: Cursor<'a>) -> Result<Option<Cursor<'a>>, ReadError>
-    ensures goes { (bytes : List ℕ) (w : WrittenPolicy) →
-        Goes result (more_terms bytes w)
-        (run (lexemes bytes tokens.entry) (at (terms_rest w ∷ []) 0)) }
-    ensures shorter { IfOk result (λ r. IfSome r (λ rest. length rest < length tokens.entry)) }
+fn next_term<'a>(lexemes: Lexemes<'a>) -> Result<Option<Lexemes<'a>>, ReadError>
+    ensures reads { (w : WrittenPolicy) →
+        AgreesWithRun result (more_terms w) (run lexemes.entry (alone (terms_rest w))) }
+    ensures shorter { IfOk result (λ r. IfSome r (λ rest. length rest < length lexemes.entry)) }
     ensures no_memory { IfErr result IsSyntax }
 {
-    let Some((first, rest)) = tokens.split_first() else {
+    let Some((first, rest)) = lexemes.split_first() else {
         return Ok(None);
     };
-    match first.kind {
-        Kind::Word(Word::And) => Ok(Some(rest)),
-        _ => Err(ReadError::Syntax(tokens.len())),
+    match first {
+        Lexeme::Word(Word::And) => Ok(Some(rest)),
+        _ => Err(ReadError::Syntax(lexemes.len())),
     }
 }
 
 /// The terms up to the end of the text.
-fn terms_after<'a>(
-    alloc: Global,
-    bytes: &[u8],
-    tokens: Cursor<'a>,
-) -> Result<Items<Term>, ReadError>
+fn terms_after<'a>(alloc: Global, lexemes: Lexemes<'a>) -> Result<Items<Term>, ReadError>
     ensures { (sets : List WrittenSet) (items : List Item) (default : Option RawPath) →
-        ReadsAll bytes.now tokens.entry result
-        (at (term_awaited (policy_of sets items default []) ∷ []) 0)
-        (policy_of sets items default) }
+        ReadsAll (term_awaited sets items default) lexemes.entry result
+        (policy_with sets items default) }
 {
     let mut terms = Items::new(alloc);
-    let mut rest = tokens;
+    let mut rest = lexemes;
     'terms: loop {
-        let (term, others) = term(alloc, bytes, rest)?;
+        let (term, others) = term(alloc, rest)?;
         terms.push(term)?;
         match next_term(others)? {
             Some(after) => rest = after,
@@ -160,20 +127,16 @@ fn terms_after<'a>(
 }
 
 /// What follows the list: nothing, or a comma and terms.
-pub(crate) fn formula_of<'a>(
-    alloc: Global,
-    bytes: &[u8],
-    tokens: Cursor<'a>,
-) -> Result<Items<Term>, ReadError>
+pub(crate) fn formula_of<'a>(alloc: Global, lexemes: Lexemes<'a>) -> Result<Items<Term>, ReadError>
     ensures { (sets : List WrittenSet) (items : List Item) (default : Option RawPath) →
-        ReadsAll bytes.now tokens.entry result
-        (at (formula (policy_of sets items default []) ∷ []) 0) (policy_of sets items default) }
+        ReadsAll (after_list sets (items, default)) lexemes.entry result
+        (policy_with sets items default) }
 {
-    let Some((first, rest)) = tokens.split_first() else {
+    let Some((first, rest)) = lexemes.split_first() else {
         return Ok(Items::new(alloc));
     };
-    match first.kind {
-        Kind::Sign(Sign::Comma) => terms_after(alloc, bytes, rest),
-        _ => Err(ReadError::Syntax(tokens.len())),
+    match first {
+        Lexeme::Sign(Sign::Comma) => terms_after(alloc, rest),
+        _ => Err(ReadError::Syntax(lexemes.len())),
     }
 }

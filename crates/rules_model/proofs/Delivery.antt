@@ -3,8 +3,8 @@ use Rattle.std.proofs.Common.{◌≡◌, ◌≢◌, ℕ, zero, suc, ◌<◌, ◌
 use Rattle.std.proofs.lemmas.Bool.{eqb-true}
 use Rattle.std.specs.List.{AllByRecursion}
 use Rattle.merlin_model.specs.declared.network.HostAddress.{HostAddress}
-use Rattle.merlin_model.specs.declared.network.Kind.{Kind}
-use Rattle.merlin_model.specs.declared.network.Kind.TheVariants.{Host, Switch, Middlebox}
+use Rattle.merlin_model.specs.declared.network.LocationKind.{LocationKind}
+use Rattle.merlin_model.specs.declared.network.LocationKind.TheVariants.{Host, Switch, Middlebox}
 use Rattle.merlin_model.specs.declared.config.Config.{Config}
 use Rattle.merlin_model.specs.Packets.{Packet}
 use Rattle.merlin_model.specs.Networks.{Network, kind_of, IsHost, address_at, address_of}
@@ -26,7 +26,7 @@ use Rattle.rules_model.proofs.Absurd.{None-Some, false-true}
 pub within-longer : (net : Network) (config : Config) (m n : ℕ) (f : Frame) (P : List Visit → End → Type 0) → m ≤ n → RunsWithin net config m f P → RunsWithin net config n f P
 within-longer net config m n f P le r = record { ends = λ visits g h. let short = r.ends visits g h in omega arith; outcome = r.outcome }
 
-pub keeps_dst : (o : Option Kind) (p q : Packet) → MayBecome o p q → q.eth_dst ≡ p.eth_dst
+pub keeps_dst : (o : Option LocationKind) (p q : Packet) → MayBecome o p q → q.eth_dst ≡ p.eth_dst
 keeps_dst None p q h = ap (λ x. x.eth_dst) h
 keeps_dst (Some (Host address)) p q h = ap (λ x. x.eth_dst) h
 keeps_dst (Some Switch) p q h = ap (λ x. x.eth_dst) h
@@ -36,7 +36,7 @@ keeps_dst (Some Middlebox) p q h = h.1
 pub arrives : (net : Network) (config : Config) (f : Frame) (d : ℕ) → IsHost net d → f.loc ≡ d → 0 < f.port → f.tag ≡ None → next net config f ≡ Stops (Delivered d f.packet)
 arrives net config f d host here port untagged = by (kind_of net f.loc) (subst (λ k. IsSome (address_of net k)) (sym here) host)
   where
-    by : (o : Option Kind) → IsSome (address_at o) → next_at net config f o ≡ Stops (Delivered d f.packet)
+    by : (o : Option LocationKind) → IsSome (address_at o) → next_at net config f o ≡ Stops (Delivered d f.packet)
     by None h = absurd (false-true h)
     by (Some Switch) h = absurd (false-true h)
     by (Some Middlebox) h = absurd (false-true h)

@@ -4,8 +4,8 @@ use Rattle.std.proofs.lemmas.Bool.{eqb-true, eq-eqb}
 use Rattle.std.proofs.lemmas.Option.{slice_get_within, get_or_from_slice_get}
 use Rattle.std.specs.Bool.{⊤}
 use Rattle.std.specs.List.{AllByRecursion}
-use Rattle.merlin_model.specs.declared.network.Kind.{Kind}
-use Rattle.merlin_model.specs.declared.network.Kind.TheVariants.{Host, Switch, Middlebox}
+use Rattle.merlin_model.specs.declared.network.LocationKind.{LocationKind}
+use Rattle.merlin_model.specs.declared.network.LocationKind.TheVariants.{Host, Switch, Middlebox}
 use Rattle.merlin_model.specs.declared.network.FnDecl.{FnDecl}
 use Rattle.merlin_model.specs.declared.policy.Symbol.{Symbol}
 use Rattle.merlin_model.specs.declared.config.Out.{Out}
@@ -40,13 +40,13 @@ suc-inj m n e = omega arith
 -- Locations.
 
 -- a symbol away from hosts is at a switch or at a middlebox
-abbrev HasKind : Option Kind → Type 0
+abbrev HasKind : Option LocationKind → Type 0
 HasKind o = (o ≡ Some Switch) ⊎ (o ≡ Some Middlebox)
 
 pub inner_kind : (net : Network) (x : Symbol) → IsSymbol net x → ¬ IsHost net x.loc → HasKind (kind_of net x.loc)
 inner_kind net x symbol inside = by (kind_of net x.loc) symbol inside
   where
-    by : (o : Option Kind) → MatchOption o ⊥ (λ _. MatchOption x.fun ⊤ (λ f. MatchOption (places_of net f) ⊥ (λ places. Contains places x.loc))) → ¬ IsSome (address_at o) → HasKind o
+    by : (o : Option LocationKind) → MatchOption o ⊥ (λ _. MatchOption x.fun ⊤ (λ f. MatchOption (places_of net f) ⊥ (λ places. Contains places x.loc))) → ¬ IsSome (address_at o) → HasKind o
     by None s n = absurd s
     by (Some (Host address)) s n = absurd (n refl)
     by (Some Switch) s n = inl refl
@@ -69,7 +69,7 @@ none_at_switch net ok x symbol here = by (kind_of net x.loc) here x.fun symbol
     in_places f None e h = h
     in_places f (Some places) e h = Switch-Middlebox (sym here ∙ at_middlebox-only net ok f x.loc places e h)
 
-    by : (o : Option Kind) → o ≡ Some Switch → (fun : Option ℕ) → MatchOption o ⊥ (λ _. MatchOption fun ⊤ (λ f. MatchOption (places_of net f) ⊥ (λ places. Contains places x.loc))) → option_to_list fun ≡ []
+    by : (o : Option LocationKind) → o ≡ Some Switch → (fun : Option ℕ) → MatchOption o ⊥ (λ _. MatchOption fun ⊤ (λ f. MatchOption (places_of net f) ⊥ (λ places. Contains places x.loc))) → option_to_list fun ≡ []
     by None e fun h = absurd h
     by (Some l) e None h = refl
     by (Some l) e (Some f) h = absurd (in_places f (places_of net f) refl h)

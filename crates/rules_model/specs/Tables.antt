@@ -1,8 +1,8 @@
 -- The tables: tags, rules and `process` lines.
 use Rattle.std.specs.Prelude.{◌↔◌, ℕ, suc, ◌≡◌, ◌≢◌, ◌<◌, ◌⊎◌, ◌==◌, ◌&&◌, Bool, true, false, List, [], ◌∷◌, ◌++◌, map, length, filter, Contains, Option, None, Some, is_some, unwrap_or, slice_get, if◌then◌else◌}
 use Rattle.std.specs.List.{flat_map, range_with_len}
-use Rattle.merlin_model.specs.declared.network.Kind.{Kind}
-use Rattle.merlin_model.specs.declared.network.Kind.TheVariants.{Host, Switch, Middlebox}
+use Rattle.merlin_model.specs.declared.network.LocationKind.{LocationKind}
+use Rattle.merlin_model.specs.declared.network.LocationKind.TheVariants.{Host, Switch, Middlebox}
 use Rattle.merlin_model.specs.declared.network.HostAddress.{HostAddress}
 use Rattle.merlin_model.specs.declared.config.Out.{Out}
 use Rattle.merlin_model.specs.declared.config.Out.TheVariants.{InPort, Port}
@@ -216,23 +216,23 @@ pub record Plan : Type 0 where
   pub rows : List TableRow
   pub entries : List IngressEntry
 
-abbrev pub is_switch_kind : Option Kind → Bool
+abbrev pub is_switch_kind : Option LocationKind → Bool
 is_switch_kind None = false
 is_switch_kind (Some (Host address)) = false
 is_switch_kind (Some Switch) = true
 is_switch_kind (Some Middlebox) = false
 
-abbrev pub is_middlebox_kind : Option Kind → Bool
+abbrev pub is_middlebox_kind : Option LocationKind → Bool
 is_middlebox_kind None = false
 is_middlebox_kind (Some (Host address)) = false
 is_middlebox_kind (Some Switch) = false
 is_middlebox_kind (Some Middlebox) = true
 
-abbrev pub is_host_kind : Option Kind → Bool
+abbrev pub is_host_kind : Option LocationKind → Bool
 is_host_kind kind = is_some (address_at kind)
 
 -- the locations of one kind, in the order of the topology
-abbrev pub locations_of_kind : (Option Kind → Bool) → Network → List ℕ
+abbrev pub locations_of_kind : (Option LocationKind → Bool) → Network → List ℕ
 locations_of_kind is_kind net = filter (λ loc. is_kind (kind_of net loc)) (range_with_len 0 (length net.locations))
 
 abbrev pub all_hosts : Network → List ℕ

@@ -3,7 +3,8 @@
 use crate::store::{Store, content, memory};
 use crate::texts::{parted, text_of};
 use crate::{
-    automata, deliveries, networks, outside, packets, policies, sizes, tokens, traffic, trees,
+    automata, deliveries, networks, outside, packets, policies, rates, sizes, tokens, traffic,
+    trees,
 };
 use merlin::run;
 use merlin_base::{MemorySink, OutOfMemory};
@@ -65,6 +66,7 @@ pub fn answer_to(
         "statement" => policies::statement(alloc, rest, store),
         "holds" => traffic::predicates(alloc, rest, store),
         "meets" => traffic::formula(alloc, rest, store),
+        "rates" => rates::answer_to(alloc, content(store, rest)),
         "automaton" => automata::table(alloc, rest, store),
         "states" => automata::count(alloc, rest, store),
         "accepts" => automata::words(alloc, rest, store),

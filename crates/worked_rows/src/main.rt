@@ -9,6 +9,7 @@ mod networks;
 mod outside;
 mod packets;
 mod policies;
+mod rates;
 mod row;
 mod script;
 mod sizes;

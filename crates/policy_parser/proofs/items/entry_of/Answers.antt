@@ -1,11 +1,19 @@
-use Rattle.std.proofs.Common.{rules, ◌≡◌, [], ◌∷◌, sym, subst}
-use Rattle.policy_grammar.specs.Lexemes.{lexemes}
-use Rattle.policy_grammar.specs.Machine.{item, run, at}
-use Rattle.policy_parser.specs.Goes.{Goes, after_entry}
-use Rattle.policy_parser.proofs.Firsts.{each_awaited, each_fed}
+use Rattle.std.proofs.Common.{rules, ◌≡◌, List, ◌∷◌, ◌∙◌, sym, ap, subst}
+use Rattle.merlin_text.specs.declared.lexeme.Lexeme.{Lexeme as ReadLexeme}
+use Rattle.merlin_text.specs.declared.lexeme.Lexeme.TheVariants as read
+use Rattle.merlin_text.specs.declared.token.Word.{Word}
+use Rattle.merlin_text.specs.declared.token.Word.TheVariants as words
+use Rattle.merlin_text.specs.ReadLexemes.{as_lexeme}
+use Rattle.policy_grammar.specs.Lexemes.{Lexeme}
+use Rattle.policy_grammar.specs.Machine.{Head, item, run}
+use Rattle.policy_parser.specs.Readers.{AgreesWithRun, alone, for_each_awaited, after_entry}
 use Rattle.policy_parser.proofs.items.entry_of.Goals as goal
 
-pub returns-in-Word-Foreach-clause-goes : goal.returns-in-Word-Foreach-clause-goes
-returns-in-Word-Foreach-clause-goes c = λ h.
-    let e : run (lexemes c.args.bytes.now c.args.tokens) (at (item h ∷ []) 0) ≡ run (lexemes c.args.bytes.now c.in-Some.rest) (each_awaited h) = search (rules, each_fed) in
-    subst (λ r. Goes c.for_each.result (λ r. run (lexemes c.args.bytes.now r.1) (after_entry r.0 h)) r) (sym e) (c.for_each.ensures.goes h)
+-- one step of the run
+each_fed : (ls rest : List Lexeme) (first : ReadLexeme) (w : Word) (h : Head) → ls ≡ as_lexeme first ∷ rest → first ≡ read.Word w → w ≡ words.Foreach → run ls (alone (item h)) ≡ run rest (for_each_awaited h)
+each_fed ls rest first w h e kind is = ap (λ ms. run ms (alone (item h))) (e ∙ ap (λ l. as_lexeme l ∷ rest) (kind ∙ ap read.Word is))
+
+pub returns-in-Word-Foreach-clause-reads : goal.returns-in-Word-Foreach-clause-reads
+returns-in-Word-Foreach-clause-reads c = λ h.
+    let e : run c.args.lexemes (alone (item h)) ≡ run c.in_ok-first.rest (for_each_awaited h) = search (rules, each_fed) in
+    subst (λ all. AgreesWithRun c.for_each.result (λ read. run read.1 (after_entry h read.0)) all) (sym e) (c.for_each.ensures.reads h)

@@ -1,0 +1,4 @@
+pub mod Localised
+pub mod Faults
+pub mod Limits
+pub mod Usage

@@ -1,0 +1,115 @@
+//! The program of a problem.
+
+ghost use Rattle.std.specs.Prelude.{ℕ, ◌≡◌, ◌≤◌, ◌<◌, ◌^◌, length, None, IfOk};
+ghost use Rattle.std.specs.List.{AllByRecursion};
+ghost use Rattle.std.proofs.Props.{props};
+ghost use Rattle.cutoff_program.specs.Flows.{variables_of, cost_of_variable, program_at, takes, is_below, cutoff_of};
+ghost use Rattle.cutoff_program.specs.Easy.{IsEasy};
+ghost use Rattle.cutoff_program.specs.Limits.{IsProblem};
+ghost use Rattle.cutoff_program.specs.Trails.{IsNeat};
+ghost use Rattle.cutoff_program.proofs.Forms.{is_program};
+ghost use Rattle.cutoff_program.proofs.Cutoffs.{has_cutoffs};
+ghost use Rattle.merlin_program.specs.Kept.{kept, variable_at};
+
+use crate::loads::value_of;
+use crate::reading::{entries_at, flow_rows, right_at, upper_at};
+use crate::rooms::is_less;
+use crate::rows::{Rows, all_rows, all_variables};
+use crate::terms::cost;
+use cutoff_program::flow::{Problem, Variable};
+use integer_program::Program;
+use merlin_model::OutOfMemory;
+use merlin_model::policy::Value;
+use sqlite_items::Items;
+use std::alloc::Global;
+
+/// The program whose solutions are assignments that are better than a cutoff.
+#[derive(Drop)]
+pub struct MerlinProgram {
+    problem: Problem,
+    variables: Items<Variable>,
+    rows: Rows,
+    ghost is: { IsProblem problem } by { Prim.hlevel props },
+    ghost variables_are: { variables ≡ variables_of problem },
+    ghost rows_are: { rows ≡ kept (program_at problem None).rows },
+}
+
+/// The program of a problem: rows of the flows, of the directed links, and the cutoff row.
+pub fn program_of(alloc: Global, problem: Problem) -> Result<MerlinProgram, OutOfMemory>
+    requires { IsProblem problem }
+    ensures { IfOk result (λ program. program.problem ≡ problem) }
+{
+    cutoff_program::laws::variables_are_small();
+    let variables = all_variables(alloc, &problem)?;
+    let rows = all_rows(alloc, &problem, variables.as_slice())?;
+    Ok(MerlinProgram {
+        problem,
+        variables,
+        rows,
+    })
+}
+
+impl MerlinProgram {
+    /// What a variable costs, whatever the objective: its rate as often as the weight of the link that it crosses says, else 0.
+    pub fn cost(&self, variable: usize) -> u64
+        requires { variable < length (variables_of self.now.problem) }
+        ensures { result ≡
+            cost_of_variable self.now.problem (variable_at self.now.problem variable) }
+    {
+        cutoff_program::laws::variables_are_small();
+        cost(&self.problem, &self.variables.as_slice()[variable])
+    }
+}
+
+impl Program for MerlinProgram {
+    type Cutoff = Value;
+
+    ghost instance = { λ it cutoff. program_at it.problem cutoff };
+
+    ghost takes = { λ it z. takes it.problem.objective z };
+
+    ghost easy = { λ it cutoff box. IsEasy it.problem cutoff box };
+
+    ghost neat = { λ it point. IsNeat it.problem point };
+
+    ghost value = { λ it point. cutoff_of it.problem point };
+
+    ghost is_below = { λ it a b. is_below a b };
+
+    fn variables(&self) -> usize {
+        self.variables.len()
+    }
+
+    fn rows(&self) -> usize {
+        self.rows.ends.len()
+    }
+
+    fn entries(&self, row: usize) -> &[(usize, i64)] {
+        entries_at(&self.problem, &self.rows, row)
+    }
+
+    fn is_equality(&self, row: usize) -> bool {
+        row < flow_rows(&self.problem, &self.rows)
+    }
+
+    fn right(&self, row: usize, cutoff: Option<&Value>) -> i64 {
+        right_at(&self.problem, &self.rows, cutoff, row)
+    }
+
+    fn upper(&self, variable: usize, cutoff: Option<&Value>) -> bool {
+        cutoff_program::laws::variables_are_small();
+        upper_at(&self.problem, cutoff, &self.variables.as_slice()[variable])
+    }
+
+    fn cutoff_of(&self, point: &[bool]) -> Value {
+        value_of(&self.problem, self.variables.as_slice(), point)
+    }
+
+    fn below(&self, a: &Value, b: &Value) -> bool {
+        is_less(a, b)
+    }
+
+    ghost is_program = { λ it cutoff coefficient_if. is_program it.problem cutoff it.is };
+
+    ghost cutoffs = { λ it. has_cutoffs it.problem it.is };
+}

@@ -1,0 +1,6 @@
+pub mod Rules
+pub mod Fields
+pub mod Messages
+pub mod Frames
+pub mod Layout
+pub mod Examples

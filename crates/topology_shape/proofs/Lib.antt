@@ -1,0 +1,11 @@
+pub mod Told
+pub mod Lexemes
+pub mod Bounds
+pub mod Elements
+pub mod Demands
+pub mod NameTables
+pub mod SetKeys
+pub mod Once
+pub mod Apart
+pub mod WellFormed
+pub mod Texts

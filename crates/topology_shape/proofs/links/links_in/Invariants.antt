@@ -1,0 +1,8 @@
+use Rattle.std.proofs.Common.{take, map}
+use Rattle.std.specs.List.{AllZip}
+use Rattle.serde_json.specs.View.{view}
+use Rattle.topology_shape.specs.Format.{IsLinkOf, location_names}
+use Rattle.topology_shape.proofs.links.links_in.Given as goal
+
+abbrev pub invariant-loop-place : goal.invariant-loop-place
+invariant-loop-place l = AllZip (IsLinkOf (location_names l.named)) (take l.place (map view l.item-items)) l.links.items

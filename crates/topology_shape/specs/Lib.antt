@@ -1,0 +1,8 @@
+pub mod Json
+pub mod Format
+pub mod Wrong
+pub mod Numbering
+pub mod Kept
+pub mod Described
+pub mod Faults
+pub mod Forms

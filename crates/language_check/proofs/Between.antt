@@ -9,7 +9,7 @@ use Rattle.merlin_model.proofs.Members.{in_to}
 use Rattle.path_automaton.proofs.Building.{get-below, get-in, all-from, map-length}
 use Rattle.language_check.specs.declared.ways.Ways.{Ways}
 use Rattle.language_check.specs.Inclusion.{symbol_at, forwards}
-use Rattle.language_check.specs.Ways.{AreSymbolsOf, AreAtLocations, AreAscending, AreWellFormed, IsRowAt, AreRowsOf, AreEndsOf}
+use Rattle.language_check.specs.Ways.{AreSymbolsOf, AreAtLocations, AreAscending, AreConsistent, IsRowAt, AreRowsOf, AreEndsOf}
 use Rattle.language_check.proofs.Walks.{symbol-within}
 
 false-true : false ≡ true → ⊥
@@ -74,7 +74,7 @@ all-places n [] h = tt
 all-places n (x ∷ symbols) h = (h.0, all-places n symbols h.1)
 
 pub are-whole : (net : Network) (symbols : List Symbol) → AreSymbolsOf net symbols → (ways : Ways) → ways.places ≡ map (λ x. x.loc) symbols → length ways.rows ≡ length net.locations → AreRowsOf net symbols ways.rows →
-    length ways.last ≡ length net.locations → (s d : ℕ) → slice_get symbols ways.start ≡ Some (at s) → slice_get symbols ways.end ≡ Some (at d) → AreWellFormed ways
+    length ways.last ≡ length net.locations → (s d : ℕ) → slice_get symbols ways.start ≡ Some (at s) → slice_get symbols ways.end ≡ Some (at d) → AreConsistent ways
 are-whole net symbols are ways places count rows last s d es ed =
     let long : length ways.places ≡ length symbols = ap length places ∙ map-length (λ x. x.loc) symbols in
     let start = get-below symbols ways.start (at s) es in

@@ -4,7 +4,7 @@ use Rattle.std.specs.List.{AllByRecursion}
 use Rattle.std.proofs.Math.Seq.{take-suc}
 use Rattle.merlin_model.proofs.Members.{In, in_to}
 use Rattle.language_check.specs.declared.ways.Ways.{Ways}
-use Rattle.language_check.specs.Ways.{AreAscending, AreWellFormed, place_in, followers_in}
+use Rattle.language_check.specs.Ways.{AreAscending, AreConsistent, place_in, followers_in}
 
 pub all-at : {X : Type 0} (P : X → Type 0) (xs : List X) (i : ℕ) (d : X) → i < length xs → AllByRecursion P xs → P (get_or xs i d)
 all-at P [] i d lt h = absurd (omega (arith, lt))
@@ -37,7 +37,7 @@ all-get P (x ∷ xs) (suc i) a h e = all-get P xs i a h.1 e
 pub take-more : {X : Type 0} (xs : List X) (i : ℕ) (d : X) → i < length xs → take (i + 1) xs ≡ take i xs ++ get_or xs i d ∷ []
 take-more xs i d lt = ap (λ k. take k xs) (add-one i) ∙ take-suc xs i d lt
 
-pub row-whole : (ways : Ways) → AreWellFormed ways → (k : ℕ) → k < length ways.places → AllByRecursion (λ j. j < length ways.places) (followers_in ways k) × AreAscending (followers_in ways k)
+pub row-whole : (ways : Ways) → AreConsistent ways → (k : ℕ) → k < length ways.places → AllByRecursion (λ j. j < length ways.places) (followers_in ways k) × AreAscending (followers_in ways k)
 row-whole ways h k lt =
     let place : place_in ways k < length ways.rows = all-at (λ loc. loc < length ways.rows) ways.places k 0 lt h.places in
     all-at (λ row. AllByRecursion (λ j. j < length ways.places) row × AreAscending row) ways.rows (place_in ways k) [] place h.below

@@ -45,7 +45,7 @@ abbrev pub AreAscending : List ℕ → Type 0
 AreAscending row = Pairwise (λ u v. u < v) row
 
 -- the numbers are those of symbols, those that may follow ascend, and each symbol has its place
-pub record AreWellFormed (ways : Ways) : Type 0 where
+pub record AreConsistent (ways : Ways) : Type 0 where
   pub below : AllByRecursion (λ row. AllByRecursion (λ k. k < length ways.places) row × AreAscending row) ways.rows
   pub places : AllByRecursion (λ loc. loc < length ways.rows) ways.places
   pub last : length ways.last ≡ length ways.rows
@@ -80,7 +80,7 @@ AreEndsOf net d ends =
 
 -- the ways between the two hosts over these symbols
 pub record AreWaysOf (net : Network) (symbols : List Symbol) (s d : ℕ) (ways : Ways) : Type 0 where
-  pub whole : AreWellFormed ways
+  pub whole : AreConsistent ways
   pub places : ways.places ≡ map (λ x. x.loc) symbols
   pub count : length ways.rows ≡ length net.locations
   pub rows : AreRowsOf net symbols ways.rows

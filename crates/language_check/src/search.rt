@@ -6,7 +6,7 @@ ghost use Rattle.std.specs.Prelude.{◌≡◌, ◌<◌, ◌+◌, ◌↔◌, ℕ,
 ghost use Rattle.std.specs.Prelude.{IfOk, OnOk, IsTrue};
 ghost use Rattle.language_check.specs.Trails.{Strays, IsLeastTrail, IsWayBack, AreFromEarlier};
 ghost use Rattle.language_check.specs.Trails.{IsInside, IsNoted};
-ghost use Rattle.language_check.specs.Ways.{grounds_of, IsSearchingIn, AreWellFormed, IsOverSymbols};
+ghost use Rattle.language_check.specs.Ways.{grounds_of, IsSearchingIn, AreConsistent, IsOverSymbols};
 
 use crate::ways::Ways;
 use indexmap::IndexSet;
@@ -63,7 +63,7 @@ fn way_back(
 
 /// Whether the last host may follow, and the first automaton then accepts and the second does not.
 fn strays(ways: &Ways, a: &Automaton, b: &Automaton, triple: Triple) -> bool
-    requires whole { AreWellFormed ways.now }
+    requires whole { AreConsistent ways.now }
     requires first { IsOverSymbols (length ways.now.places) a.now }
     requires second { IsOverSymbols (length ways.now.places) b.now }
     requires inside { IsInside (grounds_of ways.now a.now b.now) (length ways.now.places) triple }
@@ -84,7 +84,7 @@ fn spread(
     a: &Automaton,
     b: &Automaton,
 ) -> Result<(), OutOfMemory>
-    requires whole { AreWellFormed ways.now }
+    requires whole { AreConsistent ways.now }
     requires first { IsOverSymbols (length ways.now.places) a.now }
     requires second { IsOverSymbols (length ways.now.places) b.now }
     requires before { IsSearchingIn ways.now a.now b.now found.old.keys from.old turn [] }
@@ -112,7 +112,7 @@ pub fn search(
     a: &Automaton,
     b: &Automaton,
 ) -> Result<Option<Items<usize>>, OutOfMemory>
-    requires whole { AreWellFormed ways.now }
+    requires whole { AreConsistent ways.now }
     requires first { IsOverSymbols (length ways.now.places) a.now }
     requires second { IsOverSymbols (length ways.now.places) b.now }
     ensures { IfOk result (IsLeastTrail (grounds_of ways.now a.now b.now)) }

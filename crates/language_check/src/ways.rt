@@ -5,7 +5,7 @@ ghost use Rattle.std.specs.Prelude.{IfOk, IsTrue};
 ghost use Rattle.std.specs.List.{AllByRecursion};
 ghost use Rattle.merlin_model.specs.Networks.{IsHost};
 ghost use Rattle.merlin_model.specs.Words.{at, MayFollow};
-ghost use Rattle.language_check.specs.Ways.{followers_in, may_end_after, AreWellFormed, AreSymbolsOf};
+ghost use Rattle.language_check.specs.Ways.{followers_in, may_end_after, AreConsistent, AreSymbolsOf};
 ghost use Rattle.language_check.specs.Ways.{IsRowAt, AreRowsOf, AreEndsOf, AreWaysOf};
 ghost use Rattle.language_check.specs.Ways.{AreAtLocations};
 
@@ -30,7 +30,7 @@ pub struct Ways {
 impl Ways {
     /// The numbers of the symbols that may follow a symbol inside, in order.
     pub fn followers(&self, symbol: usize) -> &[usize]
-        requires whole { AreWellFormed self.now }
+        requires whole { AreConsistent self.now }
         requires within { symbol < length self.now.places }
         ensures { result.now ≡ followers_in self.now symbol }
     {
@@ -39,7 +39,7 @@ impl Ways {
 
     /// Whether the last host may follow a symbol.
     pub fn may_end(&self, symbol: usize) -> bool
-        requires whole { AreWellFormed self.now }
+        requires whole { AreConsistent self.now }
         requires within { symbol < length self.now.places }
         ensures { result ≡ may_end_after self.now symbol }
     {

@@ -81,7 +81,7 @@ Compiles-one form p t (Least compiled) s h k = Compiles-done form p t compiled.n
 
 -- the same of what the files hold
 
-of_two : (P : List ℕ → List ℕ → Type 0) (contents : List (List ℕ)) (a b c d : List ℕ)
+pub of_two : (P : List ℕ → List ℕ → Type 0) (contents : List (List ℕ)) (a b c d : List ℕ)
     → contents ≡ a ∷ b ∷ [] → contents ≡ c ∷ d ∷ [] → P c d → P a b
 of_two P contents a b c d e e' h =
     let first : c ≡ a = cc in

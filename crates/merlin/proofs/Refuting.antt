@@ -5,9 +5,10 @@ use Rattle.merlin_base.specs.declared.status.Status.TheVariants as status
 use Rattle.merlin_model.specs.Programs.{Program}
 use Rattle.merlin_model.specs.Trees.{Refutes, FailsAt, nodes_of, root_box}
 use Rattle.merlin_model.specs.declared.certificate.Tree.{Tree}
-use Rattle.merlin.specs.Refute.{IsProgram, IsTree, AreRead, Checks, IsRefuteReply, refute_status}
+use Rattle.merlin.specs.Refute.{IsProgramOf, IsTreeOf, AreRead, Checks, IsRefuteReply, refute_status}
 use Rattle.merlin.specs.declared.refute.RefuteReply.{RefuteReply}
 use Rattle.merlin.specs.declared.refute.RefuteReply.TheVariants.{BadProgram, BadTree, Refuted, NotRefuted}
+use Rattle.merlin.proofs.Compiling.{of_two}
 
 none_is : {X : Type 0} (x : X) → None ≡ Some x → ⊥
 none_is x e = cc
@@ -25,12 +26,12 @@ fails_not program tree box k fails refutes = fails.fails (at _ (nodes_of tree bo
 
 -- what is true of the program and the tree that texts stand for is true of what was read
 of_read : (P : Program → Tree → Type 0) (p t : List ℕ) (program other : Program) (tree twin : Tree)
-    → IsProgram p program → IsTree t tree → AreRead p t other twin → P program tree → P other twin
+    → IsProgramOf p program → IsTreeOf t tree → AreRead p t other twin → P program tree → P other twin
 of_read P p t program other tree twin is_program is_tree read h =
     subst (λ x. P x twin) (read.one_program program is_program) (subst (λ y. P program y) (read.one_tree tree is_tree) h)
 
-pub Checks-refuted : (p t : List ℕ) (program : Program) (tree : Tree) → IsProgram p program
-    → IsTree t tree → Refutes program tree (root_box program) → (r : RefuteReply) → Checks p t r
+pub Checks-refuted : (p t : List ℕ) (program : Program) (tree : Tree) → IsProgramOf p program
+    → IsTreeOf t tree → Refutes program tree (root_box program) → (r : RefuteReply) → Checks p t r
     → r ≡ Refuted
 Checks-refuted p t program tree is_program is_tree refutes (BadProgram place) h = absurd (h.none program is_program.0 is_program.1)
 Checks-refuted p t program tree is_program is_tree refutes (BadTree place) h = absurd (h.1.none tree is_tree.0 is_tree.1)
@@ -38,8 +39,8 @@ Checks-refuted p t program tree is_program is_tree refutes Refuted h = refl
 Checks-refuted p t program tree is_program is_tree refutes (NotRefuted node) h =
     absurd (fails_not h.program h.tree (root_box h.program) node h.fails (of_read (λ x y. Refutes x y (root_box x)) p t program h.program tree h.tree is_program is_tree h.read refutes))
 
-pub Checks-short : (p t : List ℕ) (program : Program) (tree : Tree) → IsProgram p program
-    → IsTree t tree → ¬ Refutes program tree (root_box program) → (r : RefuteReply) → Checks p t r
+pub Checks-short : (p t : List ℕ) (program : Program) (tree : Tree) → IsProgramOf p program
+    → IsTreeOf t tree → ¬ Refutes program tree (root_box program) → (r : RefuteReply) → Checks p t r
     → refute_status r ≡ status.CheckNo
 Checks-short p t program tree is_program is_tree short (BadProgram place) h = absurd (h.none program is_program.0 is_program.1)
 Checks-short p t program tree is_program is_tree short (BadTree place) h = absurd (h.1.none tree is_tree.0 is_tree.1)
@@ -78,13 +79,6 @@ Checks-one p t Refuted s h other = let same : s ≡ Refuted = of_refuted p t s h
 Checks-one p t (NotRefuted node) s h other = of_not_refuted p t node s h other
 
 -- the same of what the files hold
-
-of_two : (P : List ℕ → List ℕ → Type 0) (contents : List (List ℕ)) (a b c d : List ℕ)
-    → contents ≡ a ∷ b ∷ [] → contents ≡ c ∷ d ∷ [] → P c d → P a b
-of_two P contents a b c d e e' h =
-    let first : c ≡ a = cc in
-    let second : d ≡ b = cc in
-    subst (λ x. P x b) first (subst (λ y. P c y) second h)
 
 pub IsRefuteReply-one : (contents : List (List ℕ)) (r s : RefuteReply) → IsRefuteReply contents r
     → IsRefuteReply contents s → refute_status s ≡ refute_status r

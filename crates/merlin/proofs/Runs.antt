@@ -15,7 +15,7 @@ use Rattle.merlin.specs.Compile.{CompileForm, compile_files, compile_lines, comp
 use Rattle.merlin.specs.Refute.{RefuteForm, refute_files, refute_lines, refute_status, IsRefuted, IsNotRefuted, IsRefuteReply}
 use Rattle.merlin.specs.Commands.{Form, Compiling, Refuting, Reply, IsForm, files_of, Means, reply_lines, reply_status}
 use Rattle.merlin.specs.Outcome.{World, Taking, IsReplied, IsOfRepliesAlone, SaysByStatus}
-use Rattle.merlin.specs.Runs.{HasCompiled, HasRefuted, HasFoundFailure, KeepsPromises}
+use Rattle.merlin.specs.Runs.{HasCompiled, HasChecked, HasRefuted, HasFoundFailure, KeepsPromises}
 use Rattle.merlin.proofs.Unique.{IsForm-same}
 
 done_refused : {A : Type 0} → status.Done ≡ status.Refused → A
@@ -102,28 +102,26 @@ module _ (world : World) (sink : Taking) (ended : Status) where
         written = subst (λ r. Grows sink.before sink.after (joined (compile_lines r))) was.is grows;
       }
 
+  checked : (form : RefuteForm) (contents : List (List ℕ)) (reply r : RefuteReply) (P : List ℕ → List ℕ → Type 0) (program tree : List ℕ)
+      → contents ≡ program ∷ tree ∷ [] → reply ≡ r → P program tree → AreContents world.known (refute_files form) contents
+      → Grows sink.before sink.after (joined (refute_lines reply)) → HasChecked world sink form r P
+  checked form contents reply r P program tree two is holds are grows = record {
+    program = program;
+    tree = tree;
+    are_contents = subst (AreContents world.known (refute_files form)) two are;
+    holds = holds;
+    written = subst (λ r. Grows sink.before sink.after (joined (refute_lines r))) is grows;
+  }
+
   refuted : (form : RefuteForm) → ended ≡ status.Done → Gives (HasRefuted world sink form) (Refuting form)
   refuted form e contents are reply means same grows =
       let was = was_refuted contents reply means (sym e ∙ same) in
-      record {
-        program = was.program;
-        tree = was.tree;
-        are_contents = subst (AreContents world.known (refute_files form)) was.two are;
-        refuted = was.refuted;
-        written = subst (λ r. Grows sink.before sink.after (joined (refute_lines r))) was.is grows;
-      }
+      checked form contents reply Refuted IsRefuted was.program was.tree was.two was.is was.refuted are grows
 
   failed : (form : RefuteForm) → ended ≡ status.CheckNo → Gives (HasFoundFailure world sink form) (Refuting form)
   failed form e contents are reply means same grows =
       let was = was_not_refuted contents reply means (sym e ∙ same) in
-      record {
-        program = was.program;
-        tree = was.tree;
-        are_contents = subst (AreContents world.known (refute_files form)) was.two are;
-        node = was.node;
-        fails = was.fails;
-        written = subst (λ r. Grows sink.before sink.after (joined (refute_lines r))) was.is grows;
-      }
+      (was.node, checked form contents reply (NotRefuted was.node) (λ p t. IsNotRefuted p t was.node) was.program was.tree was.two was.is was.fails are grows)
 
 pub KeepsPromises-from_outcome : (world : World) (sink : Taking) (words : List (List ℕ)) (ended : Status)
     → SaysByStatus world sink words ended → KeepsPromises world sink words ended

@@ -34,19 +34,19 @@ refute_files form = (form.program, TEXT_LIMIT) ∷ (form.tree, TREE_LIMIT) ∷ [
 -- What each reply means of the program and the tree.
 
 -- the text stands for this program, or for this tree
-abbrev pub IsProgram : List ℕ → Program → Type 0
-IsProgram text program = IsProgramText program × (text ≡ program_text program)
+abbrev pub IsProgramOf : List ℕ → Program → Type 0
+IsProgramOf text program = IsProgramText program × (text ≡ program_text program)
 
-abbrev pub IsTree : List ℕ → Tree → Type 0
-IsTree text tree = IsTreeText tree × (text ≡ tree_text tree)
+abbrev pub IsTreeOf : List ℕ → Tree → Type 0
+IsTreeOf text tree = IsTreeText tree × (text ≡ tree_text tree)
 
 -- the texts stand for this program and this tree, and for no others
 pub record AreRead (program_bytes tree_bytes : List ℕ) (program : Program) (tree : Tree)
     : Type 0 where
-  pub is_program : IsProgram program_bytes program
-  pub is_tree : IsTree tree_bytes tree
-  pub one_program : (other : Program) → IsProgram program_bytes other → other ≡ program
-  pub one_tree : (other : Tree) → IsTree tree_bytes other → other ≡ tree
+  pub is_program : IsProgramOf program_bytes program
+  pub is_tree : IsTreeOf tree_bytes tree
+  pub one_program : (other : Program) → IsProgramOf program_bytes other → other ≡ program
+  pub one_tree : (other : Tree) → IsTreeOf tree_bytes other → other ≡ tree
 
 -- The tree of the one text refutes the program of the other, and that program has no solution.
 pub record IsRefuted (program_bytes tree_bytes : List ℕ) : Type 0 where
@@ -67,7 +67,7 @@ pub record IsNotRefuted (program_bytes tree_bytes : List ℕ) (node : ℕ) : Typ
 abbrev pub Checks : List ℕ → List ℕ → RefuteReply → Type 0
 Checks program tree (BadProgram at) = IsFirstWrongLine program_text IsProgramText program at
 Checks program tree (BadTree at) =
-    ((stated : Program) × IsProgram program stated) × IsFirstWrongLine tree_text IsTreeText tree at
+    ((stated : Program) × IsProgramOf program stated) × IsFirstWrongLine tree_text IsTreeText tree at
 Checks program tree Refuted = IsRefuted program tree
 Checks program tree (NotRefuted node) = IsNotRefuted program tree node
 

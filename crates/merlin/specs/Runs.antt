@@ -4,6 +4,7 @@ use Rattle.merlin_base.specs.Texts.{joined}
 use Rattle.merlin_base.specs.Outside.{Grows}
 use Rattle.merlin.specs.declared.compiler.Compiled.{Compiled}
 use Rattle.merlin.specs.declared.compile.CompileReply.TheVariants.{Least}
+use Rattle.merlin.specs.declared.refute.RefuteReply.{RefuteReply}
 use Rattle.merlin.specs.declared.refute.RefuteReply.TheVariants.{Refuted, NotRefuted}
 use Rattle.merlin.specs.Reading.{AreContents}
 use Rattle.merlin.specs.Compiler.{IsCompiledFrom}
@@ -24,22 +25,23 @@ pub record HasCompiled (world : World) (sink : Taking) (form : CompileForm) : Ty
   pub from : IsCompiledFrom policy topology form.objective compiled
   pub written : Grows sink.before sink.after (joined (compile_lines (Least compiled)))
 
--- The sink took the one line, and the program of the first file has no solution.
-pub record HasRefuted (world : World) (sink : Taking) (form : RefuteForm) : Type 0 where
+-- The sink took the line of this reply, and this holds of the texts of the two files.
+pub record HasChecked (world : World) (sink : Taking) (form : RefuteForm) (reply : RefuteReply)
+    (Holds : List ℕ → List ℕ → Type 0) : Type 0 where
   pub program : List ℕ
   pub tree : List ℕ
   pub are_contents : AreContents world.known (refute_files form) (program ∷ tree ∷ [])
-  pub refuted : IsRefuted program tree
-  pub written : Grows sink.before sink.after (joined (refute_lines Refuted))
+  pub holds : Holds program tree
+  pub written : Grows sink.before sink.after (joined (refute_lines reply))
+
+-- The sink took the one line, and the program of the first file has no solution.
+abbrev pub HasRefuted : World → Taking → RefuteForm → Type 0
+HasRefuted world sink form = HasChecked world sink form Refuted IsRefuted
 
 -- The sink took the number of the first node of the tree that fails.
-pub record HasFoundFailure (world : World) (sink : Taking) (form : RefuteForm) : Type 0 where
-  pub program : List ℕ
-  pub tree : List ℕ
-  pub are_contents : AreContents world.known (refute_files form) (program ∷ tree ∷ [])
-  pub node : ℕ
-  pub fails : IsNotRefuted program tree node
-  pub written : Grows sink.before sink.after (joined (refute_lines (NotRefuted node)))
+abbrev pub HasFoundFailure : World → Taking → RefuteForm → Type 0
+HasFoundFailure world sink form =
+    (node : ℕ) × HasChecked world sink form (NotRefuted node) (λ program tree. IsNotRefuted program tree node)
 
 -- What a reader asks of each command. To compile: with Done the sink took exactly the text of a
 -- result that keeps its promise. To refute: with

@@ -16,6 +16,7 @@ use crate::refusals::early_fault_text;
 use crate::report::{Report, named_line, push_line};
 use config_text::print;
 use merlin_base::{Name, OutOfMemory, Status, read_decimal};
+use merlin_model::limits::MAX_NODES;
 use merlin_model::policy::{Objective, Value};
 use std::alloc::Global;
 
@@ -23,7 +24,7 @@ use std::alloc::Global;
 pub const DEFAULT_BUDGET: u64 = 512;
 
 /// The most nodes of a tree that words may ask for.
-pub const MAX_BUDGET: u64 = 4096;
+pub const MAX_BUDGET: u64 = MAX_NODES as u64;
 
 /// A command to compile two files.
 #[derive(Clone, Copy)]

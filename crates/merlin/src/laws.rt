@@ -13,7 +13,7 @@ ghost use Rattle.merlin.specs.declared.refute.RefuteReply.{RefuteReply};
 ghost use Rattle.merlin.specs.declared.refute.RefuteReply.TheVariants as refute;
 ghost use Rattle.merlin.specs.Compile.{CompileForm, IsCompileReply, compile_status};
 ghost use Rattle.merlin.specs.Compiler.{IsSupportedText};
-ghost use Rattle.merlin.specs.Refute.{IsProgram, IsTree, IsRefuteReply, refute_status};
+ghost use Rattle.merlin.specs.Refute.{IsProgramOf, IsTreeOf, IsRefuteReply, refute_status};
 
 /// A policy that is built and a topology that stands for a network are done. In any case two replies
 /// to the same files have one status.
@@ -31,10 +31,10 @@ pub fn compile_replies()
 /// case two replies to the same files have one status.
 pub fn refute_replies()
     ensures refuted { (p t : List ℕ) (program : Program) (tree : Tree) (reply : RefuteReply) →
-        IsProgram p program → IsTree t tree → Refutes program tree (root_box program) →
+        IsProgramOf p program → IsTreeOf t tree → Refutes program tree (root_box program) →
         IsRefuteReply (p ∷ t ∷ []) reply → reply ≡ refute.Refuted }
     ensures short { (p t : List ℕ) (program : Program) (tree : Tree) (reply : RefuteReply) →
-        IsProgram p program → IsTree t tree → ¬ Refutes program tree (root_box program) →
+        IsProgramOf p program → IsTreeOf t tree → ¬ Refutes program tree (root_box program) →
         IsRefuteReply (p ∷ t ∷ []) reply → refute_status reply ≡ status.CheckNo }
     ensures one { (contents : List (List ℕ)) (reply other : RefuteReply) →
         IsRefuteReply contents reply → IsRefuteReply contents other →

@@ -1,11 +1,12 @@
 -- Predicates that are Yes or No do not count.
-use Rattle.std.proofs.Common.{Option, None, Some, MatchOption, add-one, ◌-◌, ◌≡◌, ◌≤◌, ◌<◌, ℕ, zero, suc, ◌+◌, Bool, true, false, not, ◌&&◌, cond, List, [], ◌∷◌, ◌++◌, length, filter, take, get_or, sum_by, refl, sym, ◌∙◌, ap, ap₂, subst, arith}
+use Rattle.std.proofs.Common.{Option, None, Some, MatchOption, ◌⊎◌, inl, inr, add-one, ◌-◌, ◌≡◌, ◌≤◌, ◌<◌, ℕ, zero, suc, ◌+◌, Bool, true, false, not, ◌&&◌, cond, List, [], ◌∷◌, ◌++◌, length, filter, take, get_or, sum_by, refl, sym, ◌∙◌, ap, ap₂, subst, arith}
 use Rattle.std.specs.List.{flat_map, list_all}
 use Rattle.std.proofs.lemmas.List.Sums.{sum_by-cons}
 use Rattle.merlin_model.specs.declared.policy.Field.{Field}
 use Rattle.merlin_model.specs.declared.policy.Pred.{Pred, Yes, No, Test as Tests, All', AnyOf', Not'}
 use Rattle.predicate_logic.specs.Residues.{residue, residues}
 use Rattle.predicate_logic.specs.Mentions.{mentions, prefixes, ascending}
+use Rattle.predicate_split.specs.declared.count.Counted.{Counted}
 use Rattle.predicate_split.specs.Parts.{bits_of, has_field, parts_within, field_parts}
 use Rattle.predicate_split.specs.Classes.{is_decided, proto_with, class_count}
 
@@ -126,3 +127,15 @@ sum-more g (n ∷ ns) (suc k) v lt e =
     let far : sum_by g (take (suc k + 1) (n ∷ ns)) ≡ g n + sum_by g (take (k + 1) ns) = ap (λ j. sum_by g (take j (n ∷ ns))) (add-one (suc k)) ∙ sum_by-cons g n (take (suc k) ns) ∙ ap (λ j. g n + sum_by g (take j ns)) (sym (add-one k)) in
     let near : sum_by g (take (suc k) (n ∷ ns)) ≡ g n + sum_by g (take k ns) = sum_by-cons g n (take k ns) in
     omega arith
+
+-- What was counted.
+
+pub nothing_is_one : (fs : List Field) (count proto : ℕ) (preds : List Pred) → preds ≡ [] → count ≡ 1 → count ≡ class_count fs proto preds
+nothing_is_one fs count proto preds none one = one ∙ sym (ap (class_count fs proto) none ∙ decided-count fs proto [] refl)
+
+abbrev IsCounted : List Field → Counted → Type 0
+IsCounted fs c = c.count ≡ class_count fs c.proto c.preds
+
+pub recent_is_counted : (fs : List Field) (c first second : Counted) → (c ≡ first) ⊎ (c ≡ second) → IsCounted fs first → IsCounted fs second → IsCounted fs c
+recent_is_counted fs c first second (inl e) h k = subst (IsCounted fs) (sym e) h
+recent_is_counted fs c first second (inr e) h k = subst (IsCounted fs) (sym e) k

@@ -178,6 +178,11 @@ pub none_found : (o : Option Packet) (P : Type 0) → is_some o ≡ false → If
 none_found None P e h = h
 none_found (Some c) P e h = cc
 
+-- what is one of two predicates that hold nowhere holds nowhere
+pub either_nowhere : (pred first second : Pred) → (pred ≡ first) ⊎ (pred ≡ second) → HoldsNowhere first → HoldsNowhere second → HoldsNowhere pred
+either_nowhere pred first second (inl e) h k = subst HoldsNowhere (sym e) h
+either_nowhere pred first second (inr e) h k = subst HoldsNowhere (sym e) k
+
 pub some_found : (o : Option Packet) (P : Type 0) → is_some o ≡ true → IfNone o P
 some_found None P e = cc
 some_found (Some c) P e = tt

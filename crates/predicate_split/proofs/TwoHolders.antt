@@ -270,3 +270,13 @@ same-pair fs p entries last known same h = record { least = λ q packet. subst (
 
 pub empty-pair : (last : List PlacedPred) (known : Option (ℕ × ℕ)) → last ≡ [] → (q : Packet) → IsPacket q → IsNoLater known (pair_at last q)
 empty-pair last known e q packet = subst (λ l. IsNoLater known (pair_at l q)) (sym e) tt
+
+-- what is one of two lists has no earlier pair if neither has
+pub later_pairs : (entries first second : List PlacedPred) (known : Option (ℕ × ℕ)) → (entries ≡ first) ⊎ (entries ≡ second) → ((q : Packet) → IsPacket q → IsNoLater known (pair_at first q)) → ((q : Packet) → IsPacket q → IsNoLater known (pair_at second q)) →
+    (q : Packet) → IsPacket q → IsNoLater known (pair_at entries q)
+later_pairs entries first second known (inl e) h k q packet = subst (λ l. IsNoLater known (pair_at l q)) (sym e) (h q packet)
+later_pairs entries first second known (inr e) h k q packet = subst (λ l. IsNoLater known (pair_at l q)) (sym e) (k q packet)
+
+pub recent-pair : (fs : List Field) (p : Packet) (entries first second : List PlacedPred) (known : Option (ℕ × ℕ)) → (entries ≡ first) ⊎ (entries ≡ second) → ((q : Packet) → IsPacket q → IsNoLater known (pair_at first q)) → ((q : Packet) → IsPacket q → IsNoLater known (pair_at second q)) →
+    IsLeastPair fs p entries known known
+recent-pair fs p entries first second known same h k = record { least = later_pairs entries first second known same h k; no_worse = no_later-refl known; attained = inl refl }

@@ -1,6 +1,6 @@
 //! How many classes the predicates have.
 
-ghost use Rattle.std.specs.Prelude.{◌≡◌, ◌≤◌, ◌<◌, ◌∷◌, false, not, filter, IfOk, MatchOption};
+ghost use Rattle.std.specs.Prelude.{◌≡◌, ◌≤◌, ◌<◌, ◌⊎◌, [], ◌∷◌, false, not, filter, IfOk, IfSome, MatchOption};
 ghost use Rattle.std.specs.List.{list_all};
 ghost use Rattle.predicate_logic.specs.Residues.{residues};
 ghost use Rattle.predicate_split.specs.Classes.{is_decided as decided, proto_with, class_count};
@@ -93,35 +93,75 @@ struct Counted {
     count: u64,
 }
 
-/// The count for what is left at a part. Most often it is what was left at the part before, and not counted again.
+/// What was counted last, and what was counted before it and is something else.
+#[derive(Drop)]
+struct RecentCounts {
+    last: Counted,
+    earlier: Counted,
+}
+
+/// The count for these predicates, if they are those that were counted.
+fn count_in(counted: &Counted, preds: &[Pred], proto: u64) -> Option<u64>
+    ensures { IfSome result (λ n. (n ≡ counted.now.count) × (preds.now ≡ counted.now.preds) ×
+        (proto ≡ counted.now.proto)) }
+{
+    if proto == counted.proto && all_alike(preds, counted.preds.as_slice()) {
+        return Some(counted.count);
+    }
+    None
+}
+
+/// The two that were counted last, once this is counted.
+fn renewed_counts(recent: RecentCounts, counted: Counted) -> RecentCounts
+    ensures last { (result.last ≡ recent.last) ⊎ (result.last ≡ counted) }
+    ensures earlier { (result.earlier ≡ recent.last) ⊎ (result.earlier ≡ recent.earlier) }
+{
+    if count_in(&recent.last, counted.preds.as_slice(), counted.proto).is_some() {
+        return recent;
+    }
+    RecentCounts {
+        last: counted,
+        earlier: recent.last,
+    }
+}
+
+/// The count for what is left at a part. Most often it is what was left at one of the parts before, and not counted again.
 #[cycle(count_from)]
 fn next_count(
     alloc: Global,
-    last: Counted,
-    left: Items<Pred>,
+    recent: &RecentCounts,
+    left: &[Pred],
     rest: &[Field],
     proto: u64,
     room: u64,
-) -> Result<Option<Counted>, OutOfMemory>
-    requires { last.count ≡ class_count rest.now last.proto last.preds }
+) -> Result<Option<u64>, OutOfMemory>
+    requires last { recent.now.last.count ≡
+        class_count rest.now recent.now.last.proto recent.now.last.preds }
+    requires earlier { recent.now.earlier.count ≡
+        class_count rest.now recent.now.earlier.proto recent.now.earlier.preds }
     ensures { IfOk result (λ found. MatchOption found
-        (room < class_count rest.now proto left)
-        (λ next. (next.count ≡ class_count rest.now proto left) × (next.count ≤ room) ×
-        (next.count ≡ class_count rest.now next.proto next.preds))) }
+        (room < class_count rest.now proto left.now)
+        (λ n. (n ≡ class_count rest.now proto left.now) × (n ≤ room))) }
 {
-    if proto == last.proto && all_alike(left.as_slice(), last.preds.as_slice()) {
-        if last.count <= room {
-            return Ok(Some(last));
-        }
-        return Ok(None);
+    if let Some(count) = count_in(&recent.last, left, proto) {
+        return Ok(within(count, room));
     }
-    match count_from(alloc, left.as_slice(), rest, proto, room)? {
-        Some(count) => Ok(Some(Counted {
-            preds: left,
-            proto,
-            count,
-        })),
-        None => Ok(None),
+    if let Some(count) = count_in(&recent.earlier, left, proto) {
+        return Ok(within(count, room));
+    }
+    count_from(alloc, left, rest, proto, room)
+}
+
+/// No predicate has one class.
+fn nothing_counted(alloc: Global, proto: u64) -> Counted
+    ensures preds { result.preds ≡ [] }
+    ensures proto { result.proto ≡ proto }
+    ensures count { result.count ≡ 1 }
+{
+    Counted {
+        preds: Items::new(alloc),
+        proto,
+        count: 1,
     }
 }
 
@@ -141,19 +181,24 @@ fn count_within(
         (λ n. (n ≡ class_count (field ∷ rest.now) proto preds.now) × (n ≤ room))) }
 {
     let values = parts(alloc, preds, field, proto)?;
-    let mut last = Counted {
-        preds: Items::new(alloc),
-        proto,
-        count: 1,
+    let mut recent = RecentCounts {
+        last: nothing_counted(alloc, proto),
+        earlier: nothing_counted(alloc, proto),
     };
     let mut count = 0;
     for value in &values {
         let left = open_residues(alloc, preds, field, *value)?;
         let proto = proto_after(field, *value, proto);
-        match next_count(alloc, last, left, rest, proto, room - count)? {
-            Some(next) => {
-                count += next.count;
-                last = next;
+        let next = next_count(alloc, &recent, left.as_slice(), rest, proto, room - count)?;
+        match next {
+            Some(more) => {
+                count += more;
+                let counted = Counted {
+                    preds: left,
+                    proto,
+                    count: more,
+                };
+                recent = renewed_counts(recent, counted);
             }
             None => return Ok(None),
         }

@@ -174,12 +174,41 @@ fn are_same(left: &[PlacedPred], right: &[PlacedPred]) -> bool
     true
 }
 
+/// What was left at the last part, and what was left at the parts before it and is something else.
+#[derive(Drop)]
+struct RecentPreds {
+    last: Items<PlacedPred>,
+    earlier: Items<PlacedPred>,
+}
+
+/// Whether these are one of the two.
+fn are_recent(recent: &RecentPreds, entries: &[PlacedPred]) -> bool
+    ensures { result ≡ true →
+        (entries.now ≡ recent.now.last) ⊎ (entries.now ≡ recent.now.earlier) }
+{
+    are_same(entries, recent.last.as_slice()) || are_same(entries, recent.earlier.as_slice())
+}
+
+/// The two that were left last, once these are left.
+fn renewed_preds(recent: RecentPreds, entries: Items<PlacedPred>) -> RecentPreds
+    ensures last { (result.last ≡ recent.last) ⊎ (result.last ≡ entries) }
+    ensures earlier { (result.earlier ≡ recent.last) ⊎ (result.earlier ≡ recent.earlier) }
+{
+    if are_same(entries.as_slice(), recent.last.as_slice()) {
+        return recent;
+    }
+    RecentPreds {
+        last: entries,
+        earlier: recent.last,
+    }
+}
+
 /// The same, unless what is left is what was left before: then the pair that is known is no later.
 #[cycle(pair_from)]
 fn pair_unless(
     alloc: Global,
     entries: &[PlacedPred],
-    last: &[PlacedPred],
+    recent: &RecentPreds,
     fields: &[Field],
     packet: Packet,
     known: Option<(usize, usize)>,
@@ -188,10 +217,12 @@ fn pair_unless(
     requires fresh { AreFresh fields.now packet.proto (preds_in entries.now) }
     requires opened { IsUnfixed fields.now packet }
     requires packet { IsPacket packet }
-    requires last { (q : Header) → IsPacket q → IsNoLater known (pair_of last.now q) }
+    requires last { (q : Header) → IsPacket q → IsNoLater known (pair_of recent.now.last q) }
+    requires earlier { (q : Header) → IsPacket q →
+        IsNoLater known (pair_of recent.now.earlier q) }
     ensures { IfOk result (IsLeastPair fields.now packet entries.now known) }
 {
-    if are_same(entries, last) {
+    if are_recent(recent, entries) {
         return Ok(known);
     }
     pair_from(alloc, entries, fields, packet, known)
@@ -214,18 +245,21 @@ fn pair_within(
 {
     let values = parts_for(alloc, entries, field, packet.value(Field::Proto))?;
     let mut found = known;
-    let mut last = Items::new(alloc);
+    let mut recent = RecentPreds {
+        last: Items::new(alloc),
+        earlier: Items::new(alloc),
+    };
     for value in &values {
         let left = entries_left(alloc, entries, field, *value)?;
         found = pair_unless(
             alloc,
             left.as_slice(),
-            last.as_slice(),
+            &recent,
             rest,
             packet.with(field, *value),
             found,
         )?;
-        last = left;
+        recent = renewed_preds(recent, left);
     }
     Ok(found)
 }

@@ -7,7 +7,7 @@ use Rattle.predicate_split.specs.Parts.{field_parts}
 use Rattle.predicate_split.specs.Walks.{HoldsNowhere}
 use Rattle.predicate_split.specs.Walks.{AreFresh}
 use Rattle.predicate_split.proofs.Fields.{rest_of-rest}
-use Rattle.predicate_split.proofs.Leasts.{IsStep, settled-least, untested-nowhere, step-range, step-next, step-answer, step-tried, step-none, none_found, some_found, empty_list}
+use Rattle.predicate_split.proofs.Leasts.{IsStep, settled-least, untested-nowhere, step-range, step-next, step-answer, step-tried, step-none, none_found, some_found, either_nowhere, empty_list}
 use Rattle.predicate_split.proofs.least.+least_from.Goals as goal
 
 pub least_from-returns-in-Yes-clause-some : goal.least_from-returns-in-Yes-clause-some
@@ -40,7 +40,7 @@ least_within-least_unless-requires t c =
       parts = c.deref-value-items.ensures.value ∙ c.in_ok-values.ensures ∙ ap (λ (l : List Pred). field_parts c.args.field c.value.result l) c.from_ref.ensures.value ∙ ap (λ (n : ℕ). field_parts c.args.field n (c.args.pred.now ∷ [])) c.value.ensures.value;
     } in
     let next = step-next _ _ _ c.with.result _ c.in_ok-left.left _ c.loop-value.value-index _ step c.loop-value-test.true refl c.with.ensures.with c.in_ok-left.ensures.is in
-    (search rules, (rest_of-rest _ _ c.requires.rest, (next.0, (next.1, c.loop-value.invariant.last))))
+    (search rules, (rest_of-rest _ _ c.requires.rest, (next.0, (next.1, (c.loop-value.invariant.last, c.loop-value.invariant.earlier)))))
 
 pub least_within-returns-then-is_some-clause-some : goal.least_within-returns-then-is_some-clause-some
 least_within-returns-then-is_some-clause-some t c =
@@ -59,7 +59,8 @@ least_within-loop-value-preserved t c =
     record {
       tried = λ u i. step-tried c.args.field c.args.pred.now c.deref-value-items.result.now c.loop-value.value-index _ c.loop-value-test.true refl c.loop-value.invariant.tried
           (subst HoldsNowhere c.in_ok-left.ensures.is nowhere) u (rw add-one at i);
-      last = nowhere;
+      last = either_nowhere _ _ _ c.renewed-recent.ensures.last c.loop-value.invariant.last nowhere;
+      earlier = either_nowhere _ _ _ c.renewed-recent.ensures.earlier c.loop-value.invariant.last c.loop-value.invariant.earlier;
     }
 
 pub least_within-returns-clause-none : goal.least_within-returns-clause-none
@@ -75,3 +76,6 @@ least_within-returns-clause-none t c =
 
 pub least_within-returns-then-is_some-clause-none : goal.least_within-returns-then-is_some-clause-none
 least_within-returns-then-is_some-clause-none t c = some_found c.in_ok-found.found _ (sym c.is_some.ensures ∙ c.if-is_some.true)
+
+pub least_unless-returns-then-is_recent-clause-none : goal.least_unless-returns-then-is_recent-clause-none
+least_unless-returns-then-is_recent-clause-none t c = either_nowhere _ _ _ (c.is_recent.ensures c.if-is_recent.true) c.requires.last c.requires.earlier

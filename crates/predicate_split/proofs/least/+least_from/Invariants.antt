@@ -16,5 +16,6 @@ decreases-least_unless l = 3 * length l.fields.now + 2
 abbrev pub invariant-least_within-loop-value : goal.invariant-least_within-loop-value
 invariant-least_within-loop-value l = record {
   tried : (u : ℕ) → In u (take l.value-index l.value-items) → HoldsNowhere (residue l.field u l.pred);
-  last : HoldsNowhere l.last;
+  last : HoldsNowhere l.recent.last;
+  earlier : HoldsNowhere l.recent.earlier;
 }

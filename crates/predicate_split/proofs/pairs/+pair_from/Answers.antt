@@ -6,7 +6,7 @@ use Rattle.predicate_split.specs.declared.pairs.PlacedPred.{PlacedPred}
 use Rattle.std.proofs.Common.{List}
 use Rattle.predicate_split.proofs.Fields.{rest_of-rest}
 use Rattle.predicate_split.proofs.Leasts.{IsStep, step-range, empty_list}
-use Rattle.predicate_split.proofs.TwoHolders.{no_later-refl, same-pair, AreTried, short-pair, settled-answer, untested-answer, pairs-next, pairs-more, pairs-all}
+use Rattle.predicate_split.proofs.TwoHolders.{no_later-refl, no_later-trans, later_pairs, recent-pair, AreTried, short-pair, settled-answer, untested-answer, pairs-next, pairs-more, pairs-all}
 use Rattle.predicate_split.proofs.pairs.+pair_from.Goals as goal
 
 pub pair_from-returns-then-entries-lt2 : goal.pair_from-returns-then-entries-lt2
@@ -43,7 +43,7 @@ pair_within-pair_unless-requires t c =
       parts = c.deref-value-items.ensures.value ∙ c.in_ok-values.ensures ∙ ap (λ (n : ℕ). field_parts c.args.field n (preds_in c.args.entries.now)) c.value.ensures.value;
     } in
     let next = pairs-next _ _ _ c.with.result c.args.entries.now c.as_slice.result.now _ c.loop-value.value-index _ step c.loop-value-test.true refl c.with.ensures.with (c.as_slice.ensures ∙ c.in_ok-left.ensures) in
-    (search rules, (rest_of-rest _ _ c.requires.rest, (next.0, (next.1, (c.with.ensures.packet, λ q packet. subst (λ (l : List PlacedPred). IsNoLater c.loop-value.found (pair_at l q)) (sym c.as_slice-in-loop-value.ensures) (c.loop-value.invariant.last q packet))))))
+    (search rules, (rest_of-rest _ _ c.requires.rest, (next.0, (next.1, (c.with.ensures.packet, (c.loop-value.invariant.last, c.loop-value.invariant.earlier))))))
 
 pub pair_within-loop-value-preserved : goal.pair_within-loop-value-preserved
 pair_within-loop-value-preserved t c =
@@ -61,7 +61,7 @@ pair_within-loop-value-preserved t c =
     } in
     let more = pairs-more _ _ _ c.with.result c.args.entries.now c.as_slice.result.now _ c.loop-value.value-index _ c.args.known c.loop-value.found c.in_ok-found.found step c.loop-value-test.true refl
     c.with.ensures.with (c.as_slice.ensures ∙ c.in_ok-left.ensures) before c.in_ok-found.ensures in
-    record { tried = λ u i. more.tried u (rw add-one at i); last = λ q packet. subst (λ (l : List PlacedPred). IsNoLater c.in_ok-found.found (pair_at l q)) c.as_slice.ensures (c.in_ok-found.ensures.least q packet); no_worse = more.no_worse; attained = more.attained }
+    record { tried = λ u i. more.tried u (rw add-one at i); last = later_pairs _ _ _ c.in_ok-found.found c.renewed_preds-recent.ensures.last (λ q packet. no_later-trans c.in_ok-found.found c.loop-value.found _ c.in_ok-found.ensures.no_worse (c.loop-value.invariant.last q packet)) (λ q packet. subst (λ (l : List PlacedPred). IsNoLater c.in_ok-found.found (pair_at l q)) c.as_slice.ensures (c.in_ok-found.ensures.least q packet)); earlier = later_pairs _ _ _ c.in_ok-found.found c.renewed_preds-recent.ensures.earlier (λ q packet. no_later-trans c.in_ok-found.found c.loop-value.found _ c.in_ok-found.ensures.no_worse (c.loop-value.invariant.last q packet)) (λ q packet. no_later-trans c.in_ok-found.found c.loop-value.found _ c.in_ok-found.ensures.no_worse (c.loop-value.invariant.earlier q packet)); no_worse = more.no_worse; attained = more.attained }
 
 pub pair_within-returns : goal.pair_within-returns
 pair_within-returns t c =
@@ -78,13 +78,14 @@ pair_within-returns t c =
       attained = c.loop-value.invariant.attained;
     })
 
-pub pair_unless-returns-then-are_same : goal.pair_unless-returns-then-are_same
-pair_unless-returns-then-are_same t c = same-pair c.args.fields.now c.args.packet c.args.entries.now c.args.last.now c.args.known (c.are_same.ensures c.if-are_same.true) c.requires.last
+pub pair_unless-returns-then-are_recent : goal.pair_unless-returns-then-are_recent
+pair_unless-returns-then-are_recent t c = recent-pair c.args.fields.now c.args.packet c.args.entries.now _ _ c.args.known (c.are_recent.ensures c.if-are_recent.true) c.requires.last c.requires.earlier
 
 pub pair_within-loop-value-init : goal.pair_within-loop-value-init
 pair_within-loop-value-init t c = record {
   tried = λ u i. absurd i;
-  last = λ q packet. subst (λ (l : List PlacedPred). IsNoLater c.args.known (pair_at l q)) (sym c.new-last.ensures) tt;
+  last = λ q packet. subst (λ (l : List PlacedPred). IsNoLater c.args.known (pair_at l q)) (sym c.new.ensures) tt;
+  earlier = λ q packet. subst (λ (l : List PlacedPred). IsNoLater c.args.known (pair_at l q)) (sym c.new-2.ensures) tt;
   no_worse = no_later-refl c.args.known;
   attained = inl refl;
 }

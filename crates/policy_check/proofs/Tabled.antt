@@ -18,14 +18,14 @@ use Rattle.merlin_model.specs.declared.policy.Path.{Path, Loc, Fun}
 use Rattle.merlin_model.specs.Networks.{Network}
 use Rattle.policy_check.specs.declared.names.Meaning.{Meaning}
 use Rattle.policy_check.specs.declared.names.Meaning.TheVariants.{Location, Function}
-use Rattle.policy_check.specs.Meanings.{held_for, path_to, location_called, function_called}
+use Rattle.policy_check.specs.Meanings.{meaning_held, path_to, location_called, function_called}
 use Rattle.policy_check.specs.Names.{meaning_of}
 use denote.Ref.{Bor}
 
 -- a name that has no meaning yet gets one
-pub added_new : (old new : BTreeMap (Bor (List ℕ)) Meaning) (name : List ℕ) (meaning : Meaning) → is_some (held_for old name) ≡ false
+pub added_new : (old new : BTreeMap (Bor (List ℕ)) Meaning) (name : List ℕ) (meaning : Meaning) → is_some (meaning_held old name) ≡ false
     → tree.UpdatesBy (λ a b. slice_cmp nat_cmp a.now b.now) (λ other. slice_cmp nat_cmp name other.now) old new (Some meaning)
-    → (other : List ℕ) → held_for new other ≡ option_or (held_for old other) (cond (bytes_eq name other) (Some meaning) None)
+    → (other : List ℕ) → meaning_held new other ≡ option_or (meaning_held old other) (cond (bytes_eq name other) (Some meaning) None)
 added_new old new name meaning absent updates other = btree_map_updates_str name old new (Some meaning) updates other ∙ by (bytes_eq name other) refl
   where
     none : (o : Option Meaning) → is_some o ≡ false → o ≡ None
@@ -36,15 +36,15 @@ added_new old new name meaning absent updates other = btree_map_updates_str name
     kept None = refl
     kept (Some m) = refl
 
-    by : (b : Bool) → bytes_eq name other ≡ b → cond b (Some meaning) (held_for old other) ≡ option_or (held_for old other) (cond b (Some meaning) None)
+    by : (b : Bool) → bytes_eq name other ≡ b → cond b (Some meaning) (meaning_held old other) ≡ option_or (meaning_held old other) (cond b (Some meaning) None)
     by true e =
         let same : name ≡ other = (bytes_eq-Decides name other).0 e in
-        sym (ap (λ o. option_or o (Some meaning)) (ap (held_for old) (sym same) ∙ none (held_for old name) absent))
-    by false e = kept (held_for old other)
+        sym (ap (λ o. option_or o (Some meaning)) (ap (meaning_held old) (sym same) ∙ none (meaning_held old name) absent))
+    by false e = kept (meaning_held old other)
 
 -- and one that has a meaning keeps it
-pub kept_old : (old : BTreeMap (Bor (List ℕ)) Meaning) (name : List ℕ) (meaning : Meaning) → is_some (held_for old name) ≡ true
-    → (other : List ℕ) → held_for old other ≡ option_or (held_for old other) (cond (bytes_eq name other) (Some meaning) None)
+pub kept_old : (old : BTreeMap (Bor (List ℕ)) Meaning) (name : List ℕ) (meaning : Meaning) → is_some (meaning_held old name) ≡ true
+    → (other : List ℕ) → meaning_held old other ≡ option_or (meaning_held old other) (cond (bytes_eq name other) (Some meaning) None)
 kept_old old name meaning there other = by (bytes_eq name other) refl
   where
     some : (o : Option Meaning) (p : Option Meaning) → is_some o ≡ true → o ≡ option_or o p
@@ -55,11 +55,11 @@ kept_old old name meaning there other = by (bytes_eq name other) refl
     kept None = refl
     kept (Some m) = refl
 
-    by : (b : Bool) → bytes_eq name other ≡ b → held_for old other ≡ option_or (held_for old other) (cond b (Some meaning) None)
+    by : (b : Bool) → bytes_eq name other ≡ b → meaning_held old other ≡ option_or (meaning_held old other) (cond b (Some meaning) None)
     by true e =
         let same : name ≡ other = (bytes_eq-Decides name other).0 e in
-        some (held_for old other) (Some meaning) (ap (λ n. is_some (held_for old n)) (sym same) ∙ there)
-    by false e = kept (held_for old other)
+        some (meaning_held old other) (Some meaning) (ap (λ n. is_some (meaning_held old n)) (sym same) ∙ there)
+    by false e = kept (meaning_held old other)
 
 -- Things with numbers and names: what is called by a name, up to a place and one further.
 
@@ -143,5 +143,5 @@ meanings_are net name =
     by (Some l) (Some f) = refl
 
 -- an empty table holds nothing
-pub nothing_held : (table : BTreeMap (Bor (List ℕ)) Meaning) → tree.IsEmpty table → (name : List ℕ) → held_for table name ≡ None
+pub nothing_held : (table : BTreeMap (Bor (List ℕ)) Meaning) → tree.IsEmpty table → (name : List ℕ) → meaning_held table name ≡ None
 nothing_held table empty name = ap (lookup (is_at (λ (key : Bor (List ℕ)). slice_cmp nat_cmp name key.now))) empty

@@ -13,8 +13,8 @@ use Rattle.policy_check.specs.declared.names.Meaning.TheVariants.{Location, Func
 use denote.Ref.{Bor}
 
 -- what the table holds under a name
-abbrev pub held_for : BTreeMap (Bor (List ℕ)) Meaning → List ℕ → Option Meaning
-held_for table name = get_by (λ key. slice_cmp nat_cmp name key.now) table
+abbrev pub meaning_held : BTreeMap (Bor (List ℕ)) Meaning → List ℕ → Option Meaning
+meaning_held table name = get_by (λ key. slice_cmp nat_cmp name key.now) table
 
 abbrev pub path_to : Meaning → Path
 path_to (Location loc) = Loc loc
@@ -22,7 +22,7 @@ path_to (Function fun) = Fun fun
 
 -- the path to what a name stands for
 abbrev pub meaning_in : BTreeMap (Bor (List ℕ)) Meaning → List ℕ → Option Path
-meaning_in table name = option_map path_to (held_for table name)
+meaning_in table name = option_map path_to (meaning_held table name)
 
 -- the first location, or the first function, of a name
 abbrev pub location_called : List Place → List ℕ → Option Meaning

@@ -20,14 +20,14 @@ named_places net =
 abbrev pub meaning_of : Network → List ℕ → Option Path
 meaning_of net name = option_map (λ place. place.1) (find (λ place. bytes_eq place.0 name) (named_places net))
 
-abbrev pub is_function : Path → Bool
-is_function (Fun fun) = true
-is_function _ = false
+abbrev pub leads_to_function : Path → Bool
+leads_to_function (Fun fun) = true
+leads_to_function _ = false
 
 -- A name is at fault that stands for nothing, or for a function under a `!`.
 abbrev pub is_faulty_at : Bool → Option Path → Bool
 is_faulty_at negated None = true
-is_faulty_at negated (Some path) = negated && is_function path
+is_faulty_at negated (Some path) = negated && leads_to_function path
 
 abbrev pub is_faulty : (List ℕ → Option Path) → PathName → Bool
 is_faulty known name = is_faulty_at name.negated (known name.text)

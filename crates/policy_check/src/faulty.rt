@@ -17,7 +17,8 @@ pub(crate) fn first_faulty<'p>(
     negated: bool,
     path: &'p RawPath,
 ) -> Option<&'p Name>
-    ensures { option_copied result ≡ slice_get (faulty_in (meaning_in names.now) negated path.now) 0 }
+    ensures { option_copied result ≡
+        slice_get (faulty_in (meaning_in names.now) negated path.now) 0 }
 {
     match path {
         RawPath::Dot => None,

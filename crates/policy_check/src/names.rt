@@ -4,7 +4,7 @@ ghost use Rattle.std.specs.Prelude.{◌≡◌, List, ℕ, IfOk, OnOk, Some, None
 ghost use Rattle.std.specs.Option.{option_or};
 ghost use Rattle.policy_grammar.specs.NumberedPaths.{place_or_none};
 ghost use Rattle.policy_check.specs.Names.{meaning_of, is_faulty_at};
-ghost use Rattle.policy_check.specs.Meanings.{held_for, meaning_in, location_called, function_called};
+ghost use Rattle.policy_check.specs.Meanings.{meaning_held, meaning_in, location_called, function_called};
 
 use merlin_model::policy::Path;
 use merlin_model::{Name, OutOfMemory};
@@ -35,8 +35,9 @@ pub(crate) fn meanings<'a>(alloc: Global, net: &'a Topology) -> Result<Meanings<
 
 // Adds a name, unless it has a meaning.
 fn add<'a>(names: &mut Meanings<'a>, name: &'a [u8], meaning: Meaning) -> Result<(), OutOfMemory>
-    ensures { OnOk result ((other : List ℕ) → held_for names.new other
-        ≡ option_or (held_for names.old other) (if bytes_eq name.now other then Some meaning else None)) }
+    ensures { OnOk result ((other : List ℕ) → meaning_held names.new other
+        ≡ option_or (meaning_held names.old other)
+        (if bytes_eq name.now other then Some meaning else None)) }
 {
     if !names.contains_key(name) {
         let _ = names.insert(name, meaning)?;
@@ -45,8 +46,8 @@ fn add<'a>(names: &mut Meanings<'a>, name: &'a [u8], meaning: Meaning) -> Result
 }
 
 fn add_locations<'a>(names: &mut Meanings<'a>, net: &'a Topology) -> Result<(), OutOfMemory>
-    ensures { OnOk result ((other : List ℕ) → held_for names.new other
-        ≡ option_or (held_for names.old other) (location_called net.now.locations other)) }
+    ensures { OnOk result ((other : List ℕ) → meaning_held names.new other
+        ≡ option_or (meaning_held names.old other) (location_called net.now.locations other)) }
 {
     for loc in 0..net.locations() {
         add(names, net.name(loc).bytes(), Meaning::Location(loc))?;
@@ -55,8 +56,8 @@ fn add_locations<'a>(names: &mut Meanings<'a>, net: &'a Topology) -> Result<(), 
 }
 
 fn add_functions<'a>(names: &mut Meanings<'a>, functions: &'a [FnDecl]) -> Result<(), OutOfMemory>
-    ensures { OnOk result ((other : List ℕ) → held_for names.new other
-        ≡ option_or (held_for names.old other) (function_called functions.now other)) }
+    ensures { OnOk result ((other : List ℕ) → meaning_held names.new other
+        ≡ option_or (meaning_held names.old other) (function_called functions.now other)) }
 {
     for (number, function) in functions.iter().enumerate() {
         add(names, function.name.bytes(), Meaning::Function(number))?;

@@ -24,7 +24,8 @@ pub fn numbered_paths(
     policy: &Policy,
     net: &Topology,
 ) -> Result<Items<Path>, NameFault>
-    ensures ok { IfOk result (λ paths. (name_faults (meaning_of net.now) (raw_paths policy.now) ≡ [])
+    ensures ok { IfOk result (λ paths.
+        (name_faults (meaning_of net.now) (raw_paths policy.now) ≡ [])
         × (paths ≡ map (numbered_path (meaning_of net.now)) (raw_paths policy.now))) }
     ensures err { IfErr result (IsFirstFault
         (name_faults (meaning_of net.now) (raw_paths policy.now))) }

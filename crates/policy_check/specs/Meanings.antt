@@ -1,5 +1,5 @@
 -- What the table of names holds.
-use Rattle.std.specs.Prelude.{ℕ, List, map, find, Option, bytes_eq}
+use Rattle.std.specs.Prelude.{ℕ, List, find, Option, bytes_eq}
 use Rattle.std.specs.List.{enumerate_from}
 use Rattle.std.specs.Option.{option_map}
 use Rattle.std.specs.Ordering.{nat_cmp}

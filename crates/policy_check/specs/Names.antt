@@ -1,11 +1,11 @@
 -- What the names in the paths of a policy stand for, and which of them are at fault.
-use Rattle.std.specs.Prelude.{ℕ, ◌≡◌, Bool, true, false, ◌&&◌, ⊤, List, [], ◌∷◌, ◌++◌, map, filter, find, Option, None, Some, is_some, slice_get, bytes_eq, if◌then◌else◌}
+use Rattle.std.specs.Prelude.{ℕ, ◌≡◌, Bool, true, false, ◌&&◌, ⊤, List, ◌++◌, map, filter, find, Option, None, Some, is_some, slice_get, bytes_eq, if◌then◌else◌}
 use Rattle.std.specs.List.{enumerate_from, flat_map}
 use Rattle.std.specs.Option.{option_map, option_to_list}
-use Rattle.merlin_model.specs.declared.policy.Path.{Path, Nothing, Empty, Dot, Loc, Fun, Cat', Alt', Star', Not'}
+use Rattle.merlin_model.specs.declared.policy.Path.{Path, Loc, Fun}
 use Rattle.merlin_model.specs.Networks.{Network}
 use Rattle.policy_grammar.specs.declared.written.RawPath.{RawPath}
-use Rattle.policy_grammar.specs.NumberedPaths.{PathName, names_of, path_names}
+use Rattle.policy_grammar.specs.NumberedPaths.{PathName, names_of}
 use Rattle.policy_expansion.specs.declared.policy.Policy.{Policy}
 use Rattle.policy_check.specs.declared.fault.NameFault.{NameFault}
 use Rattle.policy_check.specs.declared.fault.NameFault.TheVariants.{UnknownName, FunctionUnderNot, OutOfMemory}

@@ -1,4 +1,4 @@
-use Rattle.std.proofs.Common.{◌≡◌, ◌+◌, ◌++◌, ℕ, List, drop, slice_get, true, sym, ◌∙◌, ap}
+use Rattle.std.proofs.Common.{◌+◌, ◌++◌, ℕ, List, drop, slice_get, true, sym, ◌∙◌, ap}
 use Rattle.std.specs.List.{flat_map}
 use Rattle.policy_grammar.specs.declared.written.RawPath.{RawPath}
 use Rattle.policy_check.specs.Names.{faulty_in}

@@ -1,4 +1,4 @@
-use Rattle.std.proofs.Common.{slice_get, sym, ◌∙◌}
+use Rattle.std.proofs.Common.{slice_get, ◌∙◌}
 use Rattle.merlin_model.specs.declared.network.Location.{Location as Place}
 use Rattle.policy_check.specs.declared.names.Meaning.TheVariants.{Location}
 use Rattle.policy_check.specs.Meanings.{meaning_held}

@@ -1,6 +1,6 @@
-use Rattle.std.proofs.Common.{◌≡◌, List, ℕ, None, sym, ◌∙◌, ap}
+use Rattle.std.proofs.Common.{◌∙◌, ap}
 use Rattle.std.specs.Option.{option_map, option_or}
-use Rattle.policy_check.specs.Meanings.{meaning_held, path_to, location_called, function_called}
+use Rattle.policy_check.specs.Meanings.{path_to, location_called, function_called}
 use Rattle.policy_check.proofs.Tabled.{meanings_are, nothing_held}
 use Rattle.policy_check.proofs.names.meanings.Goals as goal
 

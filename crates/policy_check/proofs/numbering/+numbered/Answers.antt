@@ -1,4 +1,4 @@
-use Rattle.std.proofs.Common.{◌≡◌, List, map, sym, ◌∙◌, ap}
+use Rattle.std.proofs.Common.{List, map, sym, ◌∙◌, ap}
 use Rattle.merlin_model.specs.declared.policy.Path.{Path, Alt, Star, Not}
 use Rattle.policy_grammar.specs.declared.written.RawPath.{RawPath}
 use Rattle.policy_grammar.specs.NumberedPaths.{in_sequence, numbered}

@@ -1,4 +1,4 @@
-use Rattle.std.proofs.Common.{◌≡◌, ◌++◌, ◌∷◌, [], List, sym, ◌∙◌, ap, append_assoc}
+use Rattle.std.proofs.Common.{◌++◌, ◌∷◌, [], List, sym, ◌∙◌, ap, append_assoc}
 use Rattle.merlin_model.specs.declared.policy.Path.{Path, Cat}
 use Rattle.policy_grammar.specs.NumberedPaths.{in_sequence}
 use Rattle.policy_check.proofs.Shapes.{in_sequence-last}

@@ -1,4 +1,4 @@
-use Rattle.std.proofs.Common.{◌≡◌, ◌++◌, ℕ, List, [], true, false, cond, map, slice_get, Some, is_some, sym, ◌∙◌, ap}
+use Rattle.std.proofs.Common.{◌++◌, ℕ, List, [], false, cond, map, Some, sym, ◌∙◌, ap}
 use Rattle.policy_check.specs.declared.fault.NameFault.TheVariants.{UnknownName, FunctionUnderNot}
 use Rattle.policy_check.specs.Names.{faulty_in, fault_of_name}
 use Rattle.policy_check.specs.Meanings.{meaning_in}

@@ -1,13 +1,10 @@
-use Rattle.std.proofs.Common.{◌≡◌, ◌≤◌, [], ◌++◌, List, length, map, take, sym, ◌∙◌, ap, arith}
-use Rattle.std.specs.Option.{option_to_list}
+use Rattle.std.proofs.Common.{◌≡◌, ◌≤◌, [], List, length, map, sym, ◌∙◌, ap, arith}
 use Rattle.std.proofs.lemmas.List.{take_all}
 use Rattle.std.proofs.lemmas.Result.{err_from_is_err_and}
-use Rattle.merlin_model.specs.declared.policy.Path.{Path}
 use Rattle.policy_expansion.specs.declared.policy.Statement.{Statement}
-use Rattle.policy_grammar.specs.NumberedPaths.{numbered}
 use Rattle.policy_check.specs.Names.{meaning_of, name_faults}
 use Rattle.policy_check.specs.Meanings.{meaning_in}
-use Rattle.policy_check.proofs.Ordered.{refused_at, refused_default, numbered_all}
+use Rattle.policy_check.proofs.Ordered.{refused_at, refused_default}
 use Rattle.policy_check.proofs.resolving.numbered_paths.Goals as goal
 
 pub returns-in_err-add_path-clause-err : goal.returns-in_err-add_path-clause-err

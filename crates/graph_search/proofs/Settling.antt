@@ -5,18 +5,18 @@ use Rattle.std.proofs.lemmas.List.Sorted.{IsPermutation-reverse, sum_by-IsPermut
 use Rattle.std.proofs.lemmas.Grind.{reverse_onto}
 use Rattle.merlin_model.proofs.Members.{in_from}
 use Rattle.graph_search.specs.declared.graph.Edge.{Edge}
-use Rattle.graph_search.specs.declared.search.Search.{Search}
-use Rattle.graph_search.specs.Graphs.{known_at, IsPath, cost_of, cost_of_path, GoesBack, IsReached, ArePotentials}
+use Rattle.graph_search.specs.declared.search.SearchState.{SearchState}
+use Rattle.graph_search.specs.Graphs.{known_at, IsPath, cost_of_edge, cost_of_path, GoesBack, IsReachedAtCost, ArePotentials}
 use Rattle.graph_search.specs.Frontiers.{HasAlso, IsTakenOut}
 use Rattle.graph_search.specs.Departures.{IsLastToLeave}
-use Rattle.graph_search.specs.Searching.{is_settled, spent, ComesBack, IsSearching, IsNearest}
+use Rattle.graph_search.specs.Searching.{is_settled, cost_of_settled, ComesBack, IsSettling, IsReadyToSettle}
 use Rattle.graph_search.proofs.Places.{some-same, none-some, same-or-not, le-or-lt, known-below, get-below, set-here, set-there, settled-other}
-use Rattle.graph_search.proofs.Costs.{spent-grows, spent-more}
+use Rattle.graph_search.proofs.Costs.{cost_of_settled-grows, cost_of_settled-more}
 use Rattle.graph_search.proofs.Following.{cost-cons}
 
 -- The cheapest entry is taken out.
 
-module _ (n : ℕ) (edges : List Edge) (source low : ℕ) (s : Search) (searching : IsSearching n edges source low n 0 s) (entry : ℕ × ℕ) (rest : List (ℕ × ℕ)) (taken : IsTakenOut entry s.frontier rest) where
+module _ (n : ℕ) (edges : List Edge) (source low : ℕ) (s : SearchState) (searching : IsSettling n edges source low n 0 s) (entry : ℕ × ℕ) (rest : List (ℕ × ℕ)) (taken : IsTakenOut entry s.frontier rest) where
   entry-there : Contains s.frontier entry
   entry-there = (taken.rest entry).1 (inl refl)
 
@@ -28,7 +28,7 @@ module _ (n : ℕ) (edges : List Edge) (source low : ℕ) (s : Search) (searchin
       by (inr h) = h
 
   -- that of a settled vertex is of no more use
-  pub stale : is_settled s.settled entry.1 ≡ true → IsSearching n edges source low n 0 (record { distance = s.distance; before = s.before; settled = s.settled; frontier = rest })
+  pub stale : is_settled s.settled entry.1 ≡ true → IsSettling n edges source low n 0 (record { distance = s.distance; before = s.before; settled = s.settled; frontier = rest })
   stale is_set = record {
     distances = searching.distances;
     befores = searching.befores;
@@ -45,7 +45,7 @@ module _ (n : ℕ) (edges : List Edge) (source low : ℕ) (s : Search) (searchin
   }
 
   -- another one is the nearest
-  pub nearest : is_settled s.settled entry.1 ≡ false → IsNearest n edges source entry.0 entry.1 (record { distance = s.distance; before = s.before; settled = s.settled; frontier = rest })
+  pub nearest : is_settled s.settled entry.1 ≡ false → IsReadyToSettle n edges source entry.0 entry.1 (record { distance = s.distance; before = s.before; settled = s.settled; frontier = rest })
   nearest is_free = record {
     within = own.1;
     fresh = is_free;
@@ -92,7 +92,7 @@ comes-settled edges before settled source u within (j ∷ ks) v h = (h.0, h.1, h
     by (inl same) = set-here settled u h.0.from true false within same
     by (inr other) = set-there settled u h.0.from true false other ∙ h.4
 
-module _ (n : ℕ) (edges : List Edge) (source cost turn : ℕ) (s : Search) (near : IsNearest n edges source cost turn s) where
+module _ (n : ℕ) (edges : List Edge) (source cost turn : ℕ) (s : SearchState) (near : IsReadyToSettle n edges source cost turn s) where
   turn-below : turn < length s.settled
   turn-below = let size = near.searching.flags in let lt = near.within in omega (arith, size, lt)
 
@@ -102,10 +102,10 @@ module _ (n : ℕ) (edges : List Edge) (source cost turn : ℕ) (s : Search) (ne
   pub own-settled : is_settled (set s.settled turn true) turn ≡ true
   own-settled = set-here s.settled turn turn true false turn-below refl
 
-  pub room : (k : ℕ) (e : Edge) → slice_get edges k ≡ Some e → e.from ≡ turn → cost + e.cost ≤ spent edges (set s.settled turn true)
-  room k e at from = let more = spent-more s.settled turn turn-below near.fresh edges k e at from in let low = near.searching.small turn cost near.distance in omega (arith, more, low)
+  pub room : (k : ℕ) (e : Edge) → slice_get edges k ≡ Some e → e.from ≡ turn → cost + e.cost ≤ cost_of_settled edges (set s.settled turn true)
+  room k e at from = let more = cost_of_settled-more s.settled turn turn-below near.fresh edges k e at from in let low = near.searching.small turn cost near.distance in omega (arith, more, low)
 
-  pub settles : IsSearching n edges source cost turn (length edges) (record { distance = s.distance; before = s.before; settled = set s.settled turn true; frontier = s.frontier })
+  pub settles : IsSettling n edges source cost turn (length edges) (record { distance = s.distance; before = s.before; settled = set s.settled turn true; frontier = s.frontier })
   settles = record {
     distances = near.searching.distances;
     befores = near.searching.befores;
@@ -118,7 +118,7 @@ module _ (n : ℕ) (edges : List Edge) (source cost turn : ℕ) (s : Search) (ne
     back = λ v c d. let h = near.searching.back v c d in (h.0, comes-settled edges s.before s.settled source turn turn-below h.0 v h.1, h.2);
     unreached = near.searching.unreached;
     followed = followed;
-    small = λ v c d. let le = near.searching.small v c d in let grows = spent-grows s.settled turn turn-below near.fresh edges in omega (arith, le, grows);
+    small = λ v c d. let le = near.searching.small v c d in let grows = cost_of_settled-grows s.settled turn turn-below near.fresh edges in omega (arith, le, grows);
   }
     where
       settled : (v : ℕ) → is_settled (set s.settled turn true) v ≡ true → (c : ℕ) × (known_at s.distance v ≡ Some c) × (c ≤ cost)
@@ -136,7 +136,7 @@ module _ (n : ℕ) (edges : List Edge) (source cost turn : ℕ) (s : Search) (ne
           by (inr other) = near.searching.followed k c e at (sym (was-free e.from other) ∙ is_set) high d
 
 -- all edges that leave it were followed
-pub all-followed : (n : ℕ) (edges : List Edge) (source cost turn bound : ℕ) (s : Search) → IsSearching n edges source cost turn bound s → IsLastToLeave edges turn bound None → is_settled s.settled turn ≡ true → IsSearching n edges source cost n 0 s
+pub all-followed : (n : ℕ) (edges : List Edge) (source cost turn bound : ℕ) (s : SearchState) → IsSettling n edges source cost turn bound s → IsLastToLeave edges turn bound None → is_settled s.settled turn ≡ true → IsSettling n edges source cost n 0 s
 all-followed n edges source cost turn bound s searching none own = record {
   distances = searching.distances;
   befores = searching.befores;
@@ -173,12 +173,12 @@ back-goes edges before settled source none [] v h = (h, ap (known_at before) h �
 back-goes edges before settled source none (k ∷ ks) v h = (h.0, h.1, h.2, h.3, back-goes edges before settled source none ks h.0.from h.5)
 
 reverse-cost : (edges : List Edge) (ks : List ℕ) → cost_of_path edges (reverse ks) ≡ cost_of_path edges ks
-reverse-cost edges ks = sum_by-IsPermutation (cost_of edges) ks (reverse ks) (IsPermutation-reverse ks)
+reverse-cost edges ks = sum_by-IsPermutation (cost_of_edge edges) ks (reverse ks) (IsPermutation-reverse ks)
 
 none-waits : (x : ℕ × ℕ) → Contains [] x → ⊥
 none-waits x h = in_from [] x h
 
-module _ (n : ℕ) (edges : List Edge) (source low : ℕ) (s : Search) (searching : IsSearching n edges source low n 0 s) (none : s.frontier ≡ []) where
+module _ (n : ℕ) (edges : List Edge) (source low : ℕ) (s : SearchState) (searching : IsSettling n edges source low n 0 s) (none : s.frontier ≡ []) where
   all-settled : (v c : ℕ) → known_at s.distance v ≡ Some c → is_settled s.settled v ≡ true
   all-settled v c d = by (is_settled s.settled v) refl
     where
@@ -209,7 +209,7 @@ module _ (n : ℕ) (edges : List Edge) (source low : ℕ) (s : Search) (searchin
     unreached = λ v d. (searching.unreached v d, λ path p. let b = path-bound path source v 0 searching.start p in none-some (sym d ∙ b.1));
   }
     where
-      reached : (v cost : ℕ) → known_at s.distance v ≡ Some cost → IsReached edges s.before source v cost
+      reached : (v cost : ℕ) → known_at s.distance v ≡ Some cost → IsReachedAtCost edges s.before source v cost
       reached v cost d =
           let h = searching.back v cost d in
           record {
@@ -235,7 +235,7 @@ same-everywhere (suc n) (suc v) a = same-everywhere n v a
 
 -- At the beginning the source alone is reached.
 pub begins : (n : ℕ) (edges : List Edge) (source : ℕ) (frontier : List (ℕ × ℕ)) → source < n → HasAlso (0, source) [] frontier →
-    IsSearching n edges source 0 n 0 (record { distance = set (replicate n None) source (Some 0); before = replicate n None; settled = replicate n false; frontier = frontier })
+    IsSettling n edges source 0 n 0 (record { distance = set (replicate n None) source (Some 0); before = replicate n None; settled = replicate n false; frontier = frontier })
 begins n edges source frontier lt also = record {
   distances = length-set (replicate n None) source (Some 0) ∙ long;
   befores = long;

@@ -2,7 +2,7 @@
 //! that leaves it, and of each edge the one before it that leaves the same vertex.
 
 ghost use Rattle.std.specs.Prelude.{IfOk, length};
-ghost use Rattle.graph_search.specs.Graphs.{AreWithin};
+ghost use Rattle.graph_search.specs.Graphs.{AreEdgesAmong};
 ghost use Rattle.graph_search.specs.Departures.{AreDepartures};
 
 use crate::blank::no_edges;
@@ -25,7 +25,7 @@ pub fn departures_of(
     edges: &[Edge],
     vertices: usize,
 ) -> Result<Departures, OutOfMemory>
-    requires { AreWithin vertices edges.now }
+    requires { AreEdgesAmong vertices edges.now }
     ensures { IfOk result (AreDepartures vertices edges.now (length edges.now)) }
 {
     let mut last = no_edges(alloc, vertices)?;

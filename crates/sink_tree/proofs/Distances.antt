@@ -5,7 +5,7 @@ use Rattle.std.proofs.lemmas.List.Sums.{sum_by-cons, sum_by-append}
 use Rattle.merlin_model.proofs.Members.{in_from, in_to}
 use Rattle.graph_search.specs.declared.graph.Edge.{Edge}
 use Rattle.graph_search.specs.declared.paths.Potentials.{Potentials}
-use Rattle.graph_search.specs.Graphs.{known_at, IsPath, cost_of, cost_of_path, cost_of_all, ArePotentials}
+use Rattle.graph_search.specs.Graphs.{known_at, IsPath, cost_of_edge, cost_of_path, cost_of_all, ArePotentials}
 use Rattle.sink_tree.specs.Backwards.{turned_edge, turned_edges}
 use Rattle.sink_tree.proofs.Places.{some-same, get-in, in-get, get-map, map-get}
 
@@ -15,13 +15,13 @@ path-snoc es u (j ∷ path) v k e p at from = (p.0, p.1, p.2, path-snoc es p.0.t
 
 cost-snoc : (es : List Edge) (path : List ℕ) (k : ℕ) (e : Edge) → slice_get es k ≡ Some e → cost_of_path es (path ++ k ∷ []) ≡ cost_of_path es path + e.cost
 cost-snoc es path k e at =
-    let joined : cost_of_path es (path ++ k ∷ []) ≡ cost_of_path es path + cost_of_path es (k ∷ []) = sum_by-append (cost_of es) path (k ∷ []) in
-    let one : cost_of_path es (k ∷ []) ≡ cost_of es k + 0 = sum_by-cons (cost_of es) k [] in
-    let own : cost_of es k ≡ e.cost = ap (λ o. option_map_or (λ x. x.cost) o 0) at in
+    let joined : cost_of_path es (path ++ k ∷ []) ≡ cost_of_path es path + cost_of_path es (k ∷ []) = sum_by-append (cost_of_edge es) path (k ∷ []) in
+    let one : cost_of_path es (k ∷ []) ≡ cost_of_edge es k + 0 = sum_by-cons (cost_of_edge es) k [] in
+    let own : cost_of_edge es k ≡ e.cost = ap (λ o. option_map_or (λ x. x.cost) o 0) at in
     omega (arith, joined, one, own)
 
-cost-cons : (es : List Edge) (k : ℕ) (path : List ℕ) → cost_of_path es (k ∷ path) ≡ cost_of es k + cost_of_path es path
-cost-cons es k path = sum_by-cons (cost_of es) k path
+cost-cons : (es : List Edge) (k : ℕ) (path : List ℕ) → cost_of_path es (k ∷ path) ≡ cost_of_edge es k + cost_of_path es path
+cost-cons es k path = sum_by-cons (cost_of_edge es) k path
 
 -- A path of some edges without its last one.
 record HasLast (es : List Edge) (u v cost : ℕ) : Type 0 where
@@ -43,7 +43,7 @@ last-of es u k [] v p = record {
   path = sym p.2;
   costs =
       let one = cost-cons es k [] in
-      let own : cost_of es k ≡ p.0.cost = ap (λ o. option_map_or (λ x. x.cost) o 0) p.1 in
+      let own : cost_of_edge es k ≡ p.0.cost = ap (λ o. option_map_or (λ x. x.cost) o 0) p.1 in
       let none : cost_of_path es [] ≡ 0 = refl in
       omega (arith, one, own, none);
 }

@@ -1,5 +1,5 @@
 use Rattle.std.proofs.Common.{◌<◌, inl, inr, ℕ, List, false, get_or, length, refl, sym, ◌∙◌, ap, subst}
-use Rattle.graph_search.specs.Searching.{IsSearching}
+use Rattle.graph_search.specs.Searching.{IsSettling}
 use Rattle.graph_search.proofs.Settling.{stale, nearest}
 use Rattle.graph_search.proofs.search.nearest.Goals as goal
 
@@ -22,6 +22,6 @@ returns-then-not-as_slice-vertex-clause-next c = λ n edges source low s.
 pub returns-clause-next : goal.returns-clause-next
 returns-clause-next c = λ n edges source low s. (
   low,
-  subst (λ (f : List (ℕ × ℕ)). IsSearching n edges source low n 0 (record { distance = c.entries.search.distance; before = c.entries.search.before; settled = c.entries.search.settled; frontier = f })) (c.in_default.ensures.0 ∙ sym c.in_default.ensures.1) (c.entries.invariant.searching n edges source low s),
+  subst (λ (f : List (ℕ × ℕ)). IsSettling n edges source low n 0 (record { distance = c.entries.search.distance; before = c.entries.search.before; settled = c.entries.search.settled; frontier = f })) (c.in_default.ensures.0 ∙ sym c.in_default.ensures.1) (c.entries.invariant.searching n edges source low s),
   c.in_default.ensures.1,
 )

@@ -4,15 +4,15 @@ use Rattle.std.specs.List.{sum_by}
 use Rattle.std.proofs.lemmas.List.Sums.{sum_by-cons, sum_by-le-sum_by}
 use Rattle.graph_search.specs.declared.graph.Edge.{Edge}
 use Rattle.graph_search.specs.Graphs.{cost_of_all}
-use Rattle.graph_search.specs.Searching.{is_settled, settled_cost, unsettled}
+use Rattle.graph_search.specs.Searching.{is_settled, cost_of_settled, unsettled}
 use Rattle.graph_search.proofs.Places.{some-same, none-some, same-or-not, set-here, set-there}
 
 cond-le : (b : Bool) (c : ℕ) → cond b c 0 ≤ c
 cond-le true c = omega arith
 cond-le false c = omega arith
 
-pub spent-within : (edges : List Edge) (settled : List Bool) → settled_cost edges settled ≤ cost_of_all edges
-spent-within edges settled = sum_by-le-sum_by (λ e. cond (is_settled settled e.from) e.cost 0) (λ e. e.cost) edges (λ e. cond-le (is_settled settled e.from) e.cost)
+pub cost_of_settled-within : (edges : List Edge) (settled : List Bool) → cost_of_settled edges settled ≤ cost_of_all edges
+cost_of_settled-within edges settled = sum_by-le-sum_by (λ e. cond (is_settled settled e.from) e.cost 0) (λ e. e.cost) edges (λ e. cond-le (is_settled settled e.from) e.cost)
 
 -- two sums of which the second has at each element at least as much, and at one more by so much
 sum-more : (f g : Edge → ℕ) (edges : List Edge) (k : ℕ) (e : Edge) (more : ℕ) → ((x : Edge) → f x ≤ g x) → slice_get edges k ≡ Some e → f e + more ≤ g e → sum_by f edges + more ≤ sum_by g edges
@@ -40,11 +40,11 @@ module _ (settled : List Bool) (turn : ℕ) (within : turn < length settled) (fr
       by (inl same) = subst (λ b. cond (is_settled settled v) c 0 ≤ cond b c 0) (sym (set-here settled turn v true false within same)) (cond-le (is_settled settled v) c)
       by (inr other) = subst (λ b. cond (is_settled settled v) c 0 ≤ cond b c 0) (sym (set-there settled turn v true false other)) (omega arith)
 
-  pub spent-grows : (edges : List Edge) → settled_cost edges settled ≤ settled_cost edges (set settled turn true)
-  spent-grows edges = sum_by-le-sum_by (λ e. cond (is_settled settled e.from) e.cost 0) (λ e. cond (is_settled (set settled turn true) e.from) e.cost 0) edges (λ e. settled-more e.from e.cost)
+  pub cost_of_settled-grows : (edges : List Edge) → cost_of_settled edges settled ≤ cost_of_settled edges (set settled turn true)
+  cost_of_settled-grows edges = sum_by-le-sum_by (λ e. cond (is_settled settled e.from) e.cost 0) (λ e. cond (is_settled (set settled turn true) e.from) e.cost 0) edges (λ e. settled-more e.from e.cost)
 
-  pub spent-more : (edges : List Edge) (k : ℕ) (e : Edge) → slice_get edges k ≡ Some e → e.from ≡ turn → settled_cost edges settled + e.cost ≤ settled_cost edges (set settled turn true)
-  spent-more edges k e at from = sum-more (λ e. cond (is_settled settled e.from) e.cost 0) (λ e. cond (is_settled (set settled turn true) e.from) e.cost 0) edges k e e.cost (λ x. settled-more x.from x.cost) at gap
+  pub cost_of_settled-more : (edges : List Edge) (k : ℕ) (e : Edge) → slice_get edges k ≡ Some e → e.from ≡ turn → cost_of_settled edges settled + e.cost ≤ cost_of_settled edges (set settled turn true)
+  cost_of_settled-more edges k e at from = sum-more (λ e. cond (is_settled settled e.from) e.cost 0) (λ e. cond (is_settled (set settled turn true) e.from) e.cost 0) edges k e e.cost (λ x. settled-more x.from x.cost) at gap
     where
       was : cond (is_settled settled e.from) e.cost 0 ≡ 0
       was = ap (λ b. cond b e.cost 0) (ap (is_settled settled) from ∙ fresh)

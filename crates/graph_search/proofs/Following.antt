@@ -4,14 +4,14 @@ use Rattle.std.proofs.lemmas.List.{length-set}
 use Rattle.std.proofs.lemmas.List.Sums.{sum_by-cons}
 use Rattle.std.specs.Option.{option_map_or}
 use Rattle.graph_search.specs.declared.graph.Edge.{Edge}
-use Rattle.graph_search.specs.declared.search.Progress.{Progress}
-use Rattle.graph_search.specs.Graphs.{known_at, edge_cost, cost_of_path}
+use Rattle.graph_search.specs.declared.search.SearchState.{SearchState}
+use Rattle.graph_search.specs.Graphs.{known_at, cost_of_edge, cost_of_path}
 use Rattle.graph_search.specs.Departures.{IsLastToLeave}
-use Rattle.graph_search.specs.Searching.{is_settled, settled_cost, ComesBack, IsSettling, IsCheaper, IsEdgeFollowed}
+use Rattle.graph_search.specs.Searching.{is_settled, cost_of_settled, ComesBack, IsSettling, IsCheaper, IsEdgeFollowed}
 use Rattle.graph_search.proofs.Places.{le-or-lt, some-same, none-some, same-or-not, set-here, set-there, settled-other}
 
 pub cost-cons : (edges : List Edge) (k : ℕ) (e : Edge) (ks : List ℕ) → slice_get edges k ≡ Some e → cost_of_path edges (k ∷ ks) ≡ e.cost + cost_of_path edges ks
-cost-cons edges k e ks at = sum_by-cons (edge_cost edges) k ks ∙ ap (λ o. option_map_or (λ x. x.cost) o 0 + cost_of_path edges ks) at
+cost-cons edges k e ks at = sum_by-cons (cost_of_edge edges) k ks ∙ ap (λ o. option_map_or (λ x. x.cost) o 0 + cost_of_path edges ks) at
 
 -- a way back stays where the last edge of a vertex that is not settled changes
 comes-more : (edges : List Edge) (before : List (Option ℕ)) (settled : List Bool) (source u k : ℕ) → is_settled settled u ≡ false → (ks : List ℕ) (v : ℕ) → v ≢ u → ComesBack edges before settled source ks v → ComesBack edges (set before u (Some k)) settled source ks v
@@ -34,7 +34,7 @@ leaves-cases edges turn bound k j f last at low = by (same-or-not j k)
             on (inl le) = le
             on (inr lt) = let ge = low from in let above : k < j = omega (arith, ge, other) in absurd (last.2 j above lt (f, at, from))
 
-module _ (n : ℕ) (edges : List Edge) (source cost turn bound k : ℕ) (e : Edge) (s : Progress) (searching : IsSettling n edges source cost turn bound s)
+module _ (n : ℕ) (edges : List Edge) (source cost turn bound k : ℕ) (e : Edge) (s : SearchState) (searching : IsSettling n edges source cost turn bound s)
     (last : IsLastToLeave edges turn bound (Some k)) (at : slice_get edges k ≡ Some e) (from : e.from ≡ turn) (within : e.to < n)
     (own : is_settled s.settled turn ≡ true) (here : known_at s.distance turn ≡ Some cost) where
   -- nothing was better
@@ -64,7 +64,7 @@ module _ (n : ℕ) (edges : List Edge) (source cost turn bound k : ℕ) (e : Edg
               (known, ap (λ x. known_at s.distance x.to) (sym one) ∙ there, subst (λ x. known ≤ c + x.cost) one (omega (arith, le, cs)))
           by (inr high) = searching.followed j c f at_f is_set high d
 
-  module _ (room : cost + e.cost ≤ settled_cost edges s.settled) (cheaper : IsCheaper (cost + e.cost) (known_at s.distance e.to)) where
+  module _ (room : cost + e.cost ≤ cost_of_settled edges s.settled) (cheaper : IsCheaper (cost + e.cost) (known_at s.distance e.to)) where
     -- the end is not settled
     known-more : (known : ℕ) → known_at s.distance e.to ≡ Some known → cost + e.cost < known
     known-more known d = subst (IsCheaper (cost + e.cost)) d cheaper
@@ -173,14 +173,14 @@ module _ (n : ℕ) (edges : List Edge) (source cost turn bound k : ℕ) (e : Edg
                 on h (inl same) = let more = known-more h.0 (ap (known_at s.distance) (sym same) ∙ h.1) in let le = h.2 in (cost + e.cost, to-known f.to same, omega (arith, more, le))
                 on h (inr other) = (h.0, to-other f.to other ∙ h.1, h.2)
 
-        small : (v c : ℕ) → known_at (set s.distance e.to (Some (cost + e.cost))) v ≡ Some c → c ≤ settled_cost edges s.settled
+        small : (v c : ℕ) → known_at (set s.distance e.to (Some (cost + e.cost))) v ≡ Some c → c ≤ cost_of_settled edges s.settled
         small v c d = by (same-or-not v e.to)
           where
-            by : (v ≡ e.to) ⊎ (v ≢ e.to) → c ≤ settled_cost edges s.settled
+            by : (v ≡ e.to) ⊎ (v ≢ e.to) → c ≤ cost_of_settled edges s.settled
             by (inl same) = let cs : c ≡ cost + e.cost = some-same (sym d ∙ to-known v same) in omega (arith, cs, room)
             by (inr other) = searching.small v c (sym (to-other v other) ∙ d)
 
-  pub followed : (t : Progress) → cost + e.cost ≤ settled_cost edges s.settled → IsEdgeFollowed k e cost s t → IsSettling n edges source cost turn k t × (t.settled ≡ s.settled) × (known_at t.distance turn ≡ Some cost)
+  pub followed : (t : SearchState) → cost + e.cost ≤ cost_of_settled edges s.settled → IsEdgeFollowed k e cost s t → IsSettling n edges source cost turn k t × (t.settled ≡ s.settled) × (known_at t.distance turn ≡ Some cost)
   followed t room (inl kept) = (subst (IsSettling n edges source cost turn k) (sym kept.0) (followed-kept kept.1.0 kept.1.1 kept.1.2), ap (λ x. x.settled) kept.0, ap (λ x. known_at x.distance turn) kept.0 ∙ here)
   followed t room (inr better) = (
     subst (IsSettling n edges source cost turn k) same (followed-improved room better.cheaper t.frontier better.frontier),

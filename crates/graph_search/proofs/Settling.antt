@@ -5,18 +5,18 @@ use Rattle.std.proofs.lemmas.List.Sorted.{IsPermutation-reverse, sum_by-IsPermut
 use Rattle.std.proofs.lemmas.Grind.{reverse_onto}
 use Rattle.merlin_model.proofs.Members.{in_from}
 use Rattle.graph_search.specs.declared.graph.Edge.{Edge}
-use Rattle.graph_search.specs.declared.search.Progress.{Progress}
-use Rattle.graph_search.specs.Graphs.{known_at, IsEdgePath, edge_cost, cost_of_path, GoesBack, HasLeastCost, ArePotentials}
+use Rattle.graph_search.specs.declared.search.SearchState.{SearchState}
+use Rattle.graph_search.specs.Graphs.{known_at, IsPath, cost_of_edge, cost_of_path, GoesBack, IsReachedAtCost, ArePotentials}
 use Rattle.graph_search.specs.Frontiers.{HasAlso, IsTakenOut}
 use Rattle.graph_search.specs.Departures.{IsLastToLeave}
-use Rattle.graph_search.specs.Searching.{is_settled, settled_cost, ComesBack, IsSettling, IsNearest}
+use Rattle.graph_search.specs.Searching.{is_settled, cost_of_settled, ComesBack, IsSettling, IsReadyToSettle}
 use Rattle.graph_search.proofs.Places.{some-same, none-some, same-or-not, le-or-lt, known-below, get-below, set-here, set-there, settled-other}
-use Rattle.graph_search.proofs.Costs.{spent-grows, spent-more}
+use Rattle.graph_search.proofs.Costs.{cost_of_settled-grows, cost_of_settled-more}
 use Rattle.graph_search.proofs.Following.{cost-cons}
 
 -- The cheapest entry is taken out.
 
-module _ (n : ℕ) (edges : List Edge) (source low : ℕ) (s : Progress) (searching : IsSettling n edges source low n 0 s) (entry : ℕ × ℕ) (rest : List (ℕ × ℕ)) (taken : IsTakenOut entry s.frontier rest) where
+module _ (n : ℕ) (edges : List Edge) (source low : ℕ) (s : SearchState) (searching : IsSettling n edges source low n 0 s) (entry : ℕ × ℕ) (rest : List (ℕ × ℕ)) (taken : IsTakenOut entry s.frontier rest) where
   entry-there : Contains s.frontier entry
   entry-there = (taken.rest entry).1 (inl refl)
 
@@ -45,7 +45,7 @@ module _ (n : ℕ) (edges : List Edge) (source low : ℕ) (s : Progress) (search
   }
 
   -- another one is the nearest
-  pub nearest : is_settled s.settled entry.1 ≡ false → IsNearest n edges source entry.0 entry.1 (record { distance = s.distance; before = s.before; settled = s.settled; frontier = rest })
+  pub nearest : is_settled s.settled entry.1 ≡ false → IsReadyToSettle n edges source entry.0 entry.1 (record { distance = s.distance; before = s.before; settled = s.settled; frontier = rest })
   nearest is_free = record {
     within = own.1;
     fresh = is_free;
@@ -92,7 +92,7 @@ comes-settled edges before settled source u within (j ∷ ks) v h = (h.0, h.1, h
     by (inl same) = set-here settled u h.0.from true false within same
     by (inr other) = set-there settled u h.0.from true false other ∙ h.4
 
-module _ (n : ℕ) (edges : List Edge) (source cost turn : ℕ) (s : Progress) (near : IsNearest n edges source cost turn s) where
+module _ (n : ℕ) (edges : List Edge) (source cost turn : ℕ) (s : SearchState) (near : IsReadyToSettle n edges source cost turn s) where
   turn-below : turn < length s.settled
   turn-below = let size = near.searching.flags in let lt = near.within in omega (arith, size, lt)
 
@@ -102,8 +102,8 @@ module _ (n : ℕ) (edges : List Edge) (source cost turn : ℕ) (s : Progress) (
   pub own-settled : is_settled (set s.settled turn true) turn ≡ true
   own-settled = set-here s.settled turn turn true false turn-below refl
 
-  pub room : (k : ℕ) (e : Edge) → slice_get edges k ≡ Some e → e.from ≡ turn → cost + e.cost ≤ settled_cost edges (set s.settled turn true)
-  room k e at from = let more = spent-more s.settled turn turn-below near.fresh edges k e at from in let low = near.searching.small turn cost near.distance in omega (arith, more, low)
+  pub room : (k : ℕ) (e : Edge) → slice_get edges k ≡ Some e → e.from ≡ turn → cost + e.cost ≤ cost_of_settled edges (set s.settled turn true)
+  room k e at from = let more = cost_of_settled-more s.settled turn turn-below near.fresh edges k e at from in let low = near.searching.small turn cost near.distance in omega (arith, more, low)
 
   pub settles : IsSettling n edges source cost turn (length edges) (record { distance = s.distance; before = s.before; settled = set s.settled turn true; frontier = s.frontier })
   settles = record {
@@ -118,7 +118,7 @@ module _ (n : ℕ) (edges : List Edge) (source cost turn : ℕ) (s : Progress) (
     back = λ v c d. let h = near.searching.back v c d in (h.0, comes-settled edges s.before s.settled source turn turn-below h.0 v h.1, h.2);
     unreached = near.searching.unreached;
     followed = followed;
-    small = λ v c d. let le = near.searching.small v c d in let grows = spent-grows s.settled turn turn-below near.fresh edges in omega (arith, le, grows);
+    small = λ v c d. let le = near.searching.small v c d in let grows = cost_of_settled-grows s.settled turn turn-below near.fresh edges in omega (arith, le, grows);
   }
     where
       settled : (v : ℕ) → is_settled (set s.settled turn true) v ≡ true → (c : ℕ) × (known_at s.distance v ≡ Some c) × (c ≤ cost)
@@ -136,7 +136,7 @@ module _ (n : ℕ) (edges : List Edge) (source cost turn : ℕ) (s : Progress) (
           by (inr other) = near.searching.followed k c e at (sym (was-free e.from other) ∙ is_set) high d
 
 -- all edges that leave it were followed
-pub all-followed : (n : ℕ) (edges : List Edge) (source cost turn bound : ℕ) (s : Progress) → IsSettling n edges source cost turn bound s → IsLastToLeave edges turn bound None → is_settled s.settled turn ≡ true → IsSettling n edges source cost n 0 s
+pub all-followed : (n : ℕ) (edges : List Edge) (source cost turn bound : ℕ) (s : SearchState) → IsSettling n edges source cost turn bound s → IsLastToLeave edges turn bound None → is_settled s.settled turn ≡ true → IsSettling n edges source cost n 0 s
 all-followed n edges source cost turn bound s searching none own = record {
   distances = searching.distances;
   befores = searching.befores;
@@ -158,12 +158,12 @@ all-followed n edges source cost turn bound s searching none own = record {
 
 -- At the end.
 
-back-path : (edges : List Edge) (before : List (Option ℕ)) (settled : List Bool) (source : ℕ) (ks : List ℕ) (v w : ℕ) (path : List ℕ) → ComesBack edges before settled source ks v → IsEdgePath edges v path w → IsEdgePath edges source (reverse ks ++ path) w
-back-path edges before settled source [] v w path h p = subst (λ u. IsEdgePath edges u path w) h p
+back-path : (edges : List Edge) (before : List (Option ℕ)) (settled : List Bool) (source : ℕ) (ks : List ℕ) (v w : ℕ) (path : List ℕ) → ComesBack edges before settled source ks v → IsPath edges v path w → IsPath edges source (reverse ks ++ path) w
+back-path edges before settled source [] v w path h p = subst (λ u. IsPath edges u path w) h p
 back-path edges before settled source (k ∷ ks) v w path h p =
-    let more : IsEdgePath edges h.0.from (k ∷ path) w = (h.0, h.2, refl, subst (λ u. IsEdgePath edges u path w) (sym h.3) p) in
-    let rest : IsEdgePath edges source (reverse ks ++ k ∷ path) w = back-path edges before settled source ks h.0.from w (k ∷ path) h.5 more in
-    subst (λ l. IsEdgePath edges source l w) (sym (turned ks)) rest
+    let more : IsPath edges h.0.from (k ∷ path) w = (h.0, h.2, refl, subst (λ u. IsPath edges u path w) (sym h.3) p) in
+    let rest : IsPath edges source (reverse ks ++ k ∷ path) w = back-path edges before settled source ks h.0.from w (k ∷ path) h.5 more in
+    subst (λ l. IsPath edges source l w) (sym (turned ks)) rest
   where
     turned : (ks : List ℕ) → reverse (k ∷ ks) ++ path ≡ reverse ks ++ k ∷ path
     turned ks = ap (λ l. l ++ path) (reverse_onto ks k []) ∙ append_assoc (reverse ks) (k ∷ []) path
@@ -173,12 +173,12 @@ back-goes edges before settled source none [] v h = (h, ap (known_at before) h �
 back-goes edges before settled source none (k ∷ ks) v h = (h.0, h.1, h.2, h.3, back-goes edges before settled source none ks h.0.from h.5)
 
 reverse-cost : (edges : List Edge) (ks : List ℕ) → cost_of_path edges (reverse ks) ≡ cost_of_path edges ks
-reverse-cost edges ks = sum_by-IsPermutation (edge_cost edges) ks (reverse ks) (IsPermutation-reverse ks)
+reverse-cost edges ks = sum_by-IsPermutation (cost_of_edge edges) ks (reverse ks) (IsPermutation-reverse ks)
 
 none-waits : (x : ℕ × ℕ) → Contains [] x → ⊥
 none-waits x h = in_from [] x h
 
-module _ (n : ℕ) (edges : List Edge) (source low : ℕ) (s : Progress) (searching : IsSettling n edges source low n 0 s) (none : s.frontier ≡ []) where
+module _ (n : ℕ) (edges : List Edge) (source low : ℕ) (s : SearchState) (searching : IsSettling n edges source low n 0 s) (none : s.frontier ≡ []) where
   all-settled : (v c : ℕ) → known_at s.distance v ≡ Some c → is_settled s.settled v ≡ true
   all-settled v c d = by (is_settled s.settled v) refl
     where
@@ -190,7 +190,7 @@ module _ (n : ℕ) (edges : List Edge) (source low : ℕ) (s : Progress) (search
           absurd (none-waits (c, v) (subst (λ l. Contains l (c, v)) none (searching.waiting v c (λ same. omega (arith, lt, size, same)) q d)))
 
   -- along a path distances grow by no more than it costs
-  path-bound : (path : List ℕ) (u v c : ℕ) → known_at s.distance u ≡ Some c → IsEdgePath edges u path v → (b : ℕ) × (known_at s.distance v ≡ Some b) × (b ≤ c + cost_of_path edges path)
+  path-bound : (path : List ℕ) (u v c : ℕ) → known_at s.distance u ≡ Some c → IsPath edges u path v → (b : ℕ) × (known_at s.distance v ≡ Some b) × (b ≤ c + cost_of_path edges path)
   path-bound [] u v c d p = (c, ap (known_at s.distance) (sym p) ∙ d, omega arith)
   path-bound (k ∷ path) u v c d p =
       let from : known_at s.distance p.0.from ≡ Some c = ap (known_at s.distance) p.2 ∙ d in
@@ -209,13 +209,13 @@ module _ (n : ℕ) (edges : List Edge) (source low : ℕ) (s : Progress) (search
     unreached = λ v d. (searching.unreached v d, λ path p. let b = path-bound path source v 0 searching.start p in none-some (sym d ∙ b.1));
   }
     where
-      reached : (v cost : ℕ) → known_at s.distance v ≡ Some cost → HasLeastCost edges s.before source v cost
+      reached : (v cost : ℕ) → known_at s.distance v ≡ Some cost → IsReachedAtCost edges s.before source v cost
       reached v cost d =
           let h = searching.back v cost d in
           record {
             back = h.0;
             goes_back = back-goes edges s.before s.settled source searching.start_before h.0 v h.1;
-            path = subst (λ l. IsEdgePath edges source l v) (append-none (reverse h.0)) (back-path edges s.before s.settled source h.0 v v [] h.1 refl);
+            path = subst (λ l. IsPath edges source l v) (append-none (reverse h.0)) (back-path edges s.before s.settled source h.0 v v [] h.1 refl);
             costs = reverse-cost edges h.0 ∙ h.2;
             least = λ other p. let b = path-bound other source v 0 searching.start p in let same : b.0 ≡ cost = some-same (sym b.1 ∙ d) in let le = b.2 in omega (arith, same, le);
           }

@@ -1,9 +1,9 @@
 //! The edges by the vertices that they leave, as chains in two lists: of each vertex the last edge
 //! that leaves it, and of each edge the one before it that leaves the same vertex.
 
-ghost use Rattle.std.specs.Prelude.{IfOk};
-ghost use Rattle.graph_search.specs.Graphs.{JoinVertices};
-ghost use Rattle.graph_search.specs.Departures.{AreAllDepartures};
+ghost use Rattle.std.specs.Prelude.{IfOk, length};
+ghost use Rattle.graph_search.specs.Graphs.{AreEdgesAmong};
+ghost use Rattle.graph_search.specs.Departures.{AreDepartures};
 
 use crate::blank::no_edges;
 use crate::graph::Edge;
@@ -25,8 +25,8 @@ pub fn departures_of(
     edges: &[Edge],
     vertices: usize,
 ) -> Result<Departures, OutOfMemory>
-    requires { JoinVertices vertices edges.now }
-    ensures { IfOk result (AreAllDepartures vertices edges.now) }
+    requires { AreEdgesAmong vertices edges.now }
+    ensures { IfOk result (AreDepartures vertices edges.now (length edges.now)) }
 {
     let mut last = no_edges(alloc, vertices)?;
     let mut previous = Items::new(alloc);

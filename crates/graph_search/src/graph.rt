@@ -1,7 +1,7 @@
 //! Graphs of numbered vertices and edges.
 
 ghost use Rattle.std.specs.Prelude.{ℕ, ◌≡◌, ◌<◌, List, length, slice_get, Some, IfOk};
-ghost use Rattle.graph_search.specs.Graphs.{JoinVertices};
+ghost use Rattle.graph_search.specs.Graphs.{AreEdgesAmong};
 
 use merlin_model::OutOfMemory;
 use sqlite_items::Items;
@@ -44,7 +44,7 @@ pub trait Graph {
 /// The edges of a graph.
 pub fn edges_of<G: Graph>(alloc: Global, graph: &G) -> Result<Items<Edge>, OutOfMemory>
     ensures edges { IfOk result (λ edges. edges ≡ G.edges_of graph.now) }
-    ensures within { IfOk result (JoinVertices (G.size graph.now)) }
+    ensures within { IfOk result (AreEdgesAmong (G.size graph.now)) }
 {
     let mut edges = Items::new(alloc);
     for number in 0..graph.edges() {

@@ -1,11 +1,11 @@
 //! Least paths from one vertex to all others.
 
 ghost use Rattle.std.specs.Prelude.{◌<◌, ◌^◌, IfOk};
-ghost use Rattle.graph_search.specs.Graphs.{JoinVertices, ArePotentials, cost_of_all};
+ghost use Rattle.graph_search.specs.Graphs.{AreEdgesAmong, ArePotentials, cost_of_all};
 
 use crate::departures::departures_of;
 use crate::graph::{Edge, Graph, edges_of};
-use crate::search::{Progress, settle_all};
+use crate::search::{SearchState, settle_all};
 use merlin_model::OutOfMemory;
 use sqlite_items::Items;
 use std::alloc::Global;
@@ -26,12 +26,12 @@ fn least_over(
     source: usize,
 ) -> Result<Potentials, OutOfMemory>
     requires source { source < vertices }
-    requires within { JoinVertices vertices edges.now }
+    requires within { AreEdgesAmong vertices edges.now }
     requires costs { cost_of_all edges.now < 2 ^ 120 }
     ensures { IfOk result (ArePotentials vertices edges.now source) }
 {
     let departures = departures_of(alloc, edges, vertices)?;
-    let Progress {
+    let SearchState {
         distance,
         before,
         settled: _,

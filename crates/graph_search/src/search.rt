@@ -4,9 +4,9 @@
 ghost use Rattle.std.specs.Prelude.{◌≡◌, ◌<◌, ◌+◌, ◌^◌, ◌↔◌, ℕ, List, length, true, None, Some};
 ghost use Rattle.std.specs.Prelude.{IfOk, OnOk, IsTrue, slice_get, slice_set};
 ghost use Rattle.graph_search.specs.declared.graph.Edge.{Edge};
-ghost use Rattle.graph_search.specs.Graphs.{JoinVertices, cost_of_all, known_at};
-ghost use Rattle.graph_search.specs.Departures.{AreAllDepartures};
-ghost use Rattle.graph_search.specs.Searching.{IsSettling, IsNearest, IsNearestOrNone, IsEdgeFollowed};
+ghost use Rattle.graph_search.specs.Graphs.{AreEdgesAmong, cost_of_all, known_at};
+ghost use Rattle.graph_search.specs.Departures.{AreDepartures};
+ghost use Rattle.graph_search.specs.Searching.{IsSettling, IsReadyToSettle, IsNextSettled, IsEdgeFollowed};
 ghost use Rattle.graph_search.specs.Searching.{IsCheaper, WaitWithin};
 
 use crate::blank::{no_costs, no_edges, no_marks};
@@ -19,7 +19,7 @@ use std::alloc::Global;
 
 /// The costs and last edges that are known, which vertices are settled, and those that wait.
 #[derive(Drop)]
-pub struct Progress {
+pub struct SearchState {
     pub distance: Items<Option<u128>>,
     pub before: Items<Option<usize>>,
     pub settled: Items<bool>,
@@ -27,7 +27,7 @@ pub struct Progress {
 }
 
 /// The state in which the source alone is reached.
-fn begin(alloc: Global, vertices: usize, source: usize) -> Result<Progress, OutOfMemory>
+fn begin(alloc: Global, vertices: usize, source: usize) -> Result<SearchState, OutOfMemory>
     requires { source < vertices }
     ensures { (edges : List Edge) →
         IfOk result (IsSettling vertices edges source 0 vertices 0) }
@@ -36,7 +36,7 @@ fn begin(alloc: Global, vertices: usize, source: usize) -> Result<Progress, OutO
     distance.set(source, Some(0));
     let mut frontier = Frontier::new(alloc);
     frontier.push(0, source)?;
-    Ok(Progress {
+    Ok(SearchState {
         distance,
         before: no_edges(alloc, vertices)?,
         settled: no_marks(alloc, vertices)?,
@@ -45,11 +45,10 @@ fn begin(alloc: Global, vertices: usize, source: usize) -> Result<Progress, OutO
 }
 
 /// Takes out the cheapest vertex that waits and is not settled, with its cost.
-fn nearest(search: &mut Progress) -> Option<(u128, usize)>
+fn nearest(search: &mut SearchState) -> Option<(u128, usize)>
     requires { WaitWithin (length search.old.settled) search.old }
     ensures next { (n : ℕ) (edges : List Edge) (source low : ℕ) →
-        IsSettling n edges source low n 0 search.old →
-        IsNearestOrNone n edges source result search.new }
+        IsSettling n edges source low n 0 search.old → IsNextSettled n edges source result search.new }
     ensures settled { search.new.settled ≡ search.old.settled }
 {
     'entries: while let Some((cost, vertex)) = search.frontier.pop() {
@@ -71,7 +70,12 @@ fn is_cheaper(cost: u128, known: Option<u128>) -> bool
 }
 
 /// Follows an edge from a vertex to which it costs so much to come.
-fn follow(search: &mut Progress, number: usize, edge: Edge, cost: u128) -> Result<(), OutOfMemory>
+fn follow(
+    search: &mut SearchState,
+    number: usize,
+    edge: Edge,
+    cost: u128,
+) -> Result<(), OutOfMemory>
     requires sum { cost + edge.cost < 2 ^ 128 }
     requires distance { edge.to < length search.old.distance }
     requires before { edge.to < length search.old.before }
@@ -88,19 +92,20 @@ fn follow(search: &mut Progress, number: usize, edge: Edge, cost: u128) -> Resul
 
 /// Settles the nearest vertex, and follows the edges that leave it.
 fn settle(
-    search: &mut Progress,
+    search: &mut SearchState,
     edges: &[Edge],
     departures: &Departures,
     cost: u128,
     vertex: usize,
 ) -> Result<(), OutOfMemory>
-    requires within { JoinVertices (length search.old.settled) edges.now }
+    requires within { AreEdgesAmong (length search.old.settled) edges.now }
     requires costs { cost_of_all edges.now < 2 ^ 120 }
-    requires departures { AreAllDepartures (length search.old.settled) edges.now departures.now }
+    requires departures { let n = length search.old.settled in
+        AreDepartures n edges.now (length edges.now) departures.now }
     requires nearest { (source : ℕ) ×
-        IsNearest (length search.old.settled) edges.now source cost vertex search.old }
+        IsReadyToSettle (length search.old.settled) edges.now source cost vertex search.old }
     ensures searching { let n = length search.old.settled in
-        (source : ℕ) → IsNearest n edges.now source cost vertex search.old →
+        (source : ℕ) → IsReadyToSettle n edges.now source cost vertex search.old →
         OnOk result (IsSettling n edges.now source cost n 0 search.new) }
     ensures settled { OnOk result (search.new.settled ≡ slice_set search.old.settled vertex true) }
 {
@@ -120,12 +125,12 @@ pub fn settle_all(
     departures: &Departures,
     vertices: usize,
     source: usize,
-) -> Result<Progress, OutOfMemory>
+) -> Result<SearchState, OutOfMemory>
     requires source { source < vertices }
-    requires within { JoinVertices vertices edges.now }
+    requires within { AreEdgesAmong vertices edges.now }
     requires costs { cost_of_all edges.now < 2 ^ 120 }
-    requires departures { AreAllDepartures vertices edges.now departures.now }
-    ensures { IfOk result (IsNearestOrNone vertices edges.now source None) }
+    requires departures { AreDepartures vertices edges.now (length edges.now) departures.now }
+    ensures { IfOk result (IsNextSettled vertices edges.now source None) }
 {
     let mut search = begin(alloc, vertices, source)?;
     'vertices: while let Some((cost, vertex)) = nearest(&mut search) {

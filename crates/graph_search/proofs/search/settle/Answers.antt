@@ -3,8 +3,8 @@ use Rattle.std.proofs.lemmas.Option.{slice_get-get_or}
 use Rattle.graph_search.specs.declared.graph.Edge.{Edge}
 use Rattle.graph_search.specs.Graphs.{known_at, cost_of_all}
 use Rattle.graph_search.specs.Departures.{IsLastToLeave, Leaves}
-use Rattle.graph_search.specs.Searching.{IsSettling, IsNearest, settled_cost, is_settled}
-use Rattle.graph_search.proofs.Costs.{spent-within}
+use Rattle.graph_search.specs.Searching.{IsSettling, IsReadyToSettle, cost_of_settled, is_settled}
+use Rattle.graph_search.proofs.Costs.{cost_of_settled-within}
 use Rattle.graph_search.proofs.Following.{followed}
 use Rattle.graph_search.proofs.Settling.{settles, own-settled, room, all-followed}
 use Rattle.graph_search.proofs.Places.{some-same, get-below, all-get, no-more}
@@ -30,8 +30,8 @@ follow-requires-clause-sum c =
     let at : slice_get edges c.in-Some.number ≡ Some e = slice_get-get_or edges c.in-Some.number (record { from = 0; to = 0; cost = 0 }) (get-below edges c.in-Some.number leaves.0 leaves.1) in
     let same : leaves.0 ≡ e = some-same (sym leaves.1 ∙ at) in
     let from : e.from ≡ c.args.vertex = ap (λ (x : Edge). x.from) (sym same) ∙ leaves.2 in
-    let le : c.args.cost + e.cost ≤ settled_cost edges (set c.args.search.now.settled c.args.vertex true) = room (length c.args.search.now.settled) edges near.0 c.args.cost c.args.vertex c.args.search.now near.1 c.in-Some.number e at from in
-    let all : settled_cost edges (set c.args.search.now.settled c.args.vertex true) ≤ cost_of_all edges = spent-within edges (set c.args.search.now.settled c.args.vertex true) in
+    let le : c.args.cost + e.cost ≤ cost_of_settled edges (set c.args.search.now.settled c.args.vertex true) = room (length c.args.search.now.settled) edges near.0 c.args.cost c.args.vertex c.args.search.now near.1 c.in-Some.number e at from in
+    let all : cost_of_settled edges (set c.args.search.now.settled c.args.vertex true) ≤ cost_of_all edges = cost_of_settled-within edges (set c.args.search.now.settled c.args.vertex true) in
     let few : cost_of_all edges < 2 ^ 120 = c.requires.costs in
     let large : 2 ^ 120 < 2 ^ 128 = lit< tt in
     omega (arith, le, all, few, large)
@@ -51,10 +51,10 @@ departures-preserved c =
     let to = all-get (λ (x : Edge). (x.from < n) × (x.to < n)) edges c.in-Some.number e c.requires.within at in
     let own : is_settled (set c.args.search.now.settled c.args.vertex true) c.args.vertex ≡ true = own-settled n edges c.requires.nearest.0 c.args.cost c.args.vertex c.args.search.now c.requires.nearest.1 in
     let own_now : is_settled c.departures.search.settled c.args.vertex ≡ true = ap (λ (l : List Bool). is_settled l c.args.vertex) c.departures.invariant.settled ∙ own in
-    let room_then : c.args.cost + e.cost ≤ settled_cost edges (set c.args.search.now.settled c.args.vertex true) = room n edges c.requires.nearest.0 c.args.cost c.args.vertex c.args.search.now c.requires.nearest.1 c.in-Some.number e at from in
-    let room_now : c.args.cost + e.cost ≤ settled_cost edges c.departures.search.settled = subst (λ (l : List Bool). c.args.cost + e.cost ≤ settled_cost edges l) (sym c.departures.invariant.settled) room_then in
+    let room_then : c.args.cost + e.cost ≤ cost_of_settled edges (set c.args.search.now.settled c.args.vertex true) = room n edges c.requires.nearest.0 c.args.cost c.args.vertex c.args.search.now c.requires.nearest.1 c.in-Some.number e at from in
+    let room_now : c.args.cost + e.cost ≤ cost_of_settled edges c.departures.search.settled = subst (λ (l : List Bool). c.args.cost + e.cost ≤ cost_of_settled edges l) (sym c.departures.invariant.settled) room_then in
     let next : known_at c.as_slice-in-Some.result.now c.in-Some.number ≡ known_at c.args.departures.now.previous c.in-Some.number = ap (λ (l : List (Option ℕ)). known_at l c.in-Some.number) c.as_slice-in-Some.ensures in
-    let step : (source : ℕ) → IsNearest n edges source c.args.cost c.args.vertex c.args.search.now → IsSettling n edges source c.args.cost c.args.vertex c.in-Some.number c.follow.new.search × (c.follow.new.search.settled ≡ c.departures.search.settled) × (known_at c.follow.new.search.distance c.args.vertex ≡ Some c.args.cost) = λ source near.
+    let step : (source : ℕ) → IsReadyToSettle n edges source c.args.cost c.args.vertex c.args.search.now → IsSettling n edges source c.args.cost c.args.vertex c.in-Some.number c.follow.new.search × (c.follow.new.search.settled ≡ c.departures.search.settled) × (known_at c.follow.new.search.distance c.args.vertex ≡ Some c.args.cost) = λ source near.
     followed n edges source c.args.cost c.args.vertex c.departures.invariant.bound c.in-Some.number e c.departures.search (c.departures.invariant.searching source near) last at from to.1 own_now c.departures.invariant.here c.follow.new.search room_now c.in_ok-follow.ensures in
     let one = step c.requires.nearest.0 c.requires.nearest.1 in
     record {

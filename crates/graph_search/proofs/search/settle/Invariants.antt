@@ -3,7 +3,7 @@ use Rattle.std.specs.Option.{option_map_or}
 use Rattle.std.specs.Prelude.{◌+◌}
 use Rattle.graph_search.specs.Graphs.{known_at}
 use Rattle.graph_search.specs.Departures.{IsLastToLeave}
-use Rattle.graph_search.specs.Searching.{IsSettling, IsNearest}
+use Rattle.graph_search.specs.Searching.{IsSettling, IsReadyToSettle}
 use Rattle.graph_search.proofs.search.settle.Given as goal
 
 abbrev pub invariant-departures : goal.invariant-departures
@@ -13,7 +13,7 @@ invariant-departures l = record {
   last : IsLastToLeave l.edges l.vertex bound l.next;
   here : known_at l.search.distance l.vertex ≡ Some l.cost;
   few : bound ≤ length l.edges;
-  searching : (source : ℕ) → IsNearest (length l.fn.search.settled) l.edges source l.cost l.vertex l.fn.search → IsSettling (length l.fn.search.settled) l.edges source l.cost l.vertex bound l.search;
+  searching : (source : ℕ) → IsReadyToSettle (length l.fn.search.settled) l.edges source l.cost l.vertex l.fn.search → IsSettling (length l.fn.search.settled) l.edges source l.cost l.vertex bound l.search;
 }
 
 abbrev pub decreases-departures : goal.decreases-departures

@@ -1,5 +1,5 @@
 use Rattle.std.proofs.Common.{◌≡◌, ◌<◌, ℕ, Bool, true, false, List, length, set, sym, ◌∙◌, ap, subst, arith}
-use Rattle.graph_search.specs.Searching.{IsSettling, IsNearest, is_settled, unsettled}
+use Rattle.graph_search.specs.Searching.{IsSettling, IsReadyToSettle, is_settled, unsettled}
 use Rattle.graph_search.proofs.Costs.{unsettled-fewer}
 use Rattle.graph_search.proofs.search.settle_all.Goals as goal
 
@@ -11,12 +11,12 @@ nearest-requires c = λ d v there. let s = c.vertices.invariant.1 in let entry =
 
 pub settle-requires-clause-nearest : goal.settle-requires-clause-nearest
 settle-requires-clause-nearest c =
-    let near : IsNearest c.args.vertices c.args.edges.now c.args.source c.in-Some.cost c.in-Some.vertex c.nearest.new.search = c.in-Some.ensures.next c.args.vertices c.args.edges.now c.args.source c.vertices.invariant.0 c.vertices.invariant.1 in
-    (c.args.source, subst (λ (n : ℕ). IsNearest n c.args.edges.now c.args.source c.in-Some.cost c.in-Some.vertex c.nearest.new.search) (sym near.searching.flags) near)
+    let near : IsReadyToSettle c.args.vertices c.args.edges.now c.args.source c.in-Some.cost c.in-Some.vertex c.nearest.new.search = c.in-Some.ensures.next c.args.vertices c.args.edges.now c.args.source c.vertices.invariant.0 c.vertices.invariant.1 in
+    (c.args.source, subst (λ (n : ℕ). IsReadyToSettle n c.args.edges.now c.args.source c.in-Some.cost c.in-Some.vertex c.nearest.new.search) (sym near.searching.flags) near)
 
 pub vertices-smaller : goal.vertices-smaller
 vertices-smaller c =
-    let near : IsNearest c.args.vertices c.args.edges.now c.args.source c.in-Some.cost c.in-Some.vertex c.nearest.new.search = c.in-Some.ensures.next c.args.vertices c.args.edges.now c.args.source c.vertices.invariant.0 c.vertices.invariant.1 in
+    let near : IsReadyToSettle c.args.vertices c.args.edges.now c.args.source c.in-Some.cost c.in-Some.vertex c.nearest.new.search = c.in-Some.ensures.next c.args.vertices c.args.edges.now c.args.source c.vertices.invariant.0 c.vertices.invariant.1 in
     let within = near.within in
     let size : length c.vertices.search.settled ≡ c.args.vertices = c.vertices.invariant.1.flags in
     let old : c.nearest.new.search.settled ≡ c.vertices.search.settled = c.in-Some.ensures.settled in
@@ -26,8 +26,8 @@ vertices-smaller c =
 
 pub vertices-preserved : goal.vertices-preserved
 vertices-preserved c =
-    let near : IsNearest c.args.vertices c.args.edges.now c.args.source c.in-Some.cost c.in-Some.vertex c.nearest.new.search = c.in-Some.ensures.next c.args.vertices c.args.edges.now c.args.source c.vertices.invariant.0 c.vertices.invariant.1 in
-    let there = subst (λ (n : ℕ). IsNearest n c.args.edges.now c.args.source c.in-Some.cost c.in-Some.vertex c.nearest.new.search) (sym near.searching.flags) near in
+    let near : IsReadyToSettle c.args.vertices c.args.edges.now c.args.source c.in-Some.cost c.in-Some.vertex c.nearest.new.search = c.in-Some.ensures.next c.args.vertices c.args.edges.now c.args.source c.vertices.invariant.0 c.vertices.invariant.1 in
+    let there = subst (λ (n : ℕ). IsReadyToSettle n c.args.edges.now c.args.source c.in-Some.cost c.in-Some.vertex c.nearest.new.search) (sym near.searching.flags) near in
     (c.in-Some.cost, subst (λ (n : ℕ). IsSettling n c.args.edges.now c.args.source c.in-Some.cost n 0 c.settle.new.search) near.searching.flags (c.in_ok-settle.ensures.searching c.args.source there))
 
 pub returns : goal.returns

@@ -5,6 +5,7 @@ use Rattle.std.specs.List.{AllByRecursion}
 use Rattle.merlin_model.specs.declared.certificate.Tree.{Tree, Leaf, Split', Unclosed, end_of-Tree, more_of-Tree}
 use Rattle.merlin_model.specs.Programs.{Program, variables, is_chosen}
 use Rattle.merlin_model.specs.Trees.{fix, fixed_at, nodes_of, root_box, IsKeptNode, has_open_end}
+use Rattle.merlin_model.proofs.Members.{all_left, all_right}
 use Rattle.bound_search.proofs.Trees.{open_append}
 use Rattle.bound_search.specs.Growing.{AreKept}
 use Rattle.bound_search.specs.Outcomes.{IsSpent}
@@ -60,14 +61,6 @@ more_power (suc m) (suc n) h =
     let a = double m in let b = double n in
     let e : suc m ≡ m + 1 = omega arith in let f : suc n ≡ n + 1 = omega arith in
     let p = ap (λ k. 2 ^ k) e in let q = ap (λ k. 2 ^ k) f in omega arith
-
-all_left : {X : Type 0} (P : X → Type 0) (xs ys : List X) → AllByRecursion P (xs ++ ys) → AllByRecursion P xs
-all_left P [] ys h = tt
-all_left P (x ∷ xs) ys h = (h.0, all_left P xs ys h.1)
-
-all_right : {X : Type 0} (P : X → Type 0) (xs ys : List X) → AllByRecursion P (xs ++ ys) → AllByRecursion P ys
-all_right P [] ys h = h
-all_right P (x ∷ xs) ys h = all_right P xs ys h.1
 
 or-le : (a b : Bool) → one_if (a || b) ≤ one_if a + one_if b
 or-le true b = omega arith

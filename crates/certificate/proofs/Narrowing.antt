@@ -9,6 +9,7 @@ use Rattle.merlin_model.specs.declared.certificate.Weight.{Weight}
 use Rattle.merlin_model.specs.declared.certificate.Tree.{Tree, Leaf, Split, Split', Unclosed, end_of-Tree, more_of-Tree}
 use Rattle.merlin_model.specs.Programs.{Program, variables, total, is_chosen, IsNarrower}
 use Rattle.merlin_model.specs.Trees.{fixed_at, fix, IsOpen, row_of, coefficient_in, weighted_coefficient, weighted_right, least_addition, least_value, IsPositiveOnBounds, RefutesBox, Node, nodes_of, nodes_of-Split, IsSoundNode, Refutes, root_box}
+use Rattle.merlin_model.proofs.Members.{all_left, all_right, all_both}
 use Rattle.integer_program.proofs.Rows.{narrower_at, rows-same}
 use Rattle.certificate.specs.Narrowed.{narrowed}
 
@@ -152,18 +153,6 @@ skip-freer upper box freer u h none shut free v = by (nat_eq v u) refl (free v)
     by false e (inr s) =
         let other : v ≢ u = grind arith in
         inr (s.0, get_or-set_other box u v (Some false) None other ∙ s.1, s.2)
-
-all_left : {X : Type 0} (P : X → Type 0) (xs ys : List X) → AllByRecursion P (xs ++ ys) → AllByRecursion P xs
-all_left P [] ys h = tt
-all_left P (x ∷ xs) ys h = (h.0, all_left P xs ys h.1)
-
-all_right : {X : Type 0} (P : X → Type 0) (xs ys : List X) → AllByRecursion P (xs ++ ys) → AllByRecursion P ys
-all_right P [] ys h = h
-all_right P (x ∷ xs) ys h = all_right P xs ys h.1
-
-all_both : {X : Type 0} (P : X → Type 0) (xs ys : List X) → AllByRecursion P xs → AllByRecursion P ys → AllByRecursion P (xs ++ ys)
-all_both P [] ys a b = b
-all_both P (x ∷ xs) ys a b = (a.0, all_both P xs ys a.1 b)
 
 abbrev IsSound : Program → List (Option Bool) × Node → Type 0
 IsSound program node = IsSoundNode program node.0 node.1

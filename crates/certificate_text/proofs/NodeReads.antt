@@ -9,6 +9,7 @@ use Rattle.merlin_base.specs.NodeTexts.{node_line, IsNodeLine, nodes_in, node_li
 use Rattle.certificate_text.specs.Outcomes.{IsLineFault}
 use Rattle.merlin_base.proofs.NodeLines.{node_front, front_free, line_behind, line_once, line_is}
 use Rattle.merlin_base.proofs.NodeTexts.{root, later, lines_are, AreLines, root_line, split_lines, halves, some_node, split_count, node_lines-Split, tree_once, lines_whole, split_is}
+use Rattle.merlin_base.proofs.TreeSkips.{first_line, three, IsSplitTree, split_down, line_whole}
 use Rattle.merlin_base.proofs.WrongLines.{line_wrong, lift_wrong, whole_lines}
 
 -- the error of a `?`
@@ -16,52 +17,21 @@ pub err_to : {X : Type 0} (P : LineFault → Type 0) (r : Result X LineFault) (f
 err_to P (Ok x) f h p = tt
 err_to P (Err e) f h p = subst P (sym h) p
 
-first_of : (t : Tree) → node_lines t ≡ node_front (root t) ++ 10 ∷ later t
-first_of t = lines_are t ∙ line_behind (root t) (later t)
-
 pub one_end : (spare : ℕ) → IsWithin (spare + 1) Unclosed
 one_end spare = record { few = omega arith; each = (tt, tt) }
 
 pub line_fault : (spare : ℕ) (text : List ℕ) (f : LineFault) → IsLineFault (λ left. (left ≡ length text) × ((node : Node) (rest : List ℕ) → IsNodeLine node → text ≡ node_line node ++ rest → ⊥)) f → IsLineFault (GoesWrong node_lines (IsWithin (spare + 1)) text) f
 line_fault spare text (Wrong left) h = subst (GoesWrong node_lines (IsWithin (spare + 1)) text) (sym h.0)
-    (line_wrong node_lines (IsWithin (spare + 1)) (λ t. node_front (root t)) later text Unclosed (one_end spare) first_of (λ t is. front_free (root t) (root_line t is.each))
+    (line_wrong node_lines (IsWithin (spare + 1)) (λ t. node_front (root t)) later text Unclosed (one_end spare) first_line (λ t is. front_free (root t) (root_line t is.each))
     (λ t rest is e. h.1 (root t) rest (root_line t is.each) (e ∙ sym (line_behind (root t) rest))))
 line_fault spare text Memory h = tt
 
-three : (t : Tree) (v : ℕ) → root t ≡ Split_node v → 3 ≤ length (nodes_in t)
-three (Leaf ws) v e = absurd (let no_way : Leaf_node ws ≡ Split_node v → ⊥ = λ h. cc in no_way e)
-three (Split' u s (more_of-Tree low end_of-Tree) t (more_of-Tree high end_of-Tree)) v e =
-    subst (λ w. 3 ≤ length (nodes_in w)) (sym (split_is u low high s t)) (let n = split_count u low high in let a = some_node low in let b = some_node high in omega arith)
-three Unclosed v e = absurd (let no_way : Open_end ≡ Split_node v → ⊥ = λ h. cc in no_way e)
-
 pub too_many : (spare v : ℕ) (text rest : List ℕ) → spare < 2 → v < 10 ^ 19 → text ≡ node_line (Split_node v) ++ rest → GoesWrong node_lines (IsWithin (spare + 1)) text (length text)
 too_many spare v text rest few is e =
-    line_wrong node_lines (IsWithin (spare + 1)) (λ t. node_front (root t)) later text Unclosed (one_end spare) first_of (λ t w. front_free (root t) (root_line t w.each))
+    line_wrong node_lines (IsWithin (spare + 1)) (λ t. node_front (root t)) later text Unclosed (one_end spare) first_line (λ t w. front_free (root t) (root_line t w.each))
     (λ t r w h.
     let same = line_once (root t) (Split_node v) r rest (root_line t w.each) is (line_behind (root t) r ∙ sym h ∙ e) in
     let n = three t v same.node in let m = w.few in omega arith)
-
--- A tree whose text begins with a split's line is a split.
-pub record IsSplit (t : Tree) (v : ℕ) (x u : List ℕ) : Type 0 where
-  pub low : Tree
-  pub high : Tree
-  pub is : t ≡ Split v low high
-  pub rest : node_lines low ++ (node_lines high ++ x) ≡ u
-
-pub split_down : (t : Tree) (v : ℕ) (x u : List ℕ) → AreLines t → v < 10 ^ 19 → node_lines t ++ x ≡ node_line (Split_node v) ++ u → IsSplit t v x u
-split_down (Leaf ws) v x u all is e =
-    let l = line_once (Leaf_node ws) (Split_node v) x u all.0 is (sym (append_assoc (node_line (Leaf_node ws)) [] x) ∙ e) in absurd (let no_way : Leaf_node ws ≡ Split_node v → ⊥ = λ h. cc in no_way l.node)
-split_down Unclosed v x u all is e =
-    let l = line_once Open_end (Split_node v) x u tt is (sym (append_assoc (node_line Open_end) [] x) ∙ e) in absurd (let no_way : Open_end ≡ Split_node v → ⊥ = λ h. cc in no_way l.node)
-split_down (Split' w s (more_of-Tree low end_of-Tree) r (more_of-Tree high end_of-Tree)) v x u all is e =
-    let t = Split' w s (more_of-Tree low end_of-Tree) r (more_of-Tree high end_of-Tree) in
-    let l = line_once (Split_node w) (Split_node v) ((node_lines low ++ node_lines high) ++ x) u (root_line (Split' w s (more_of-Tree low end_of-Tree) r (more_of-Tree high end_of-Tree)) all) is
-    (sym (append_assoc (node_line (Split_node w)) (node_lines low ++ node_lines high) x) ∙ ap (λ z. z ++ x) (sym (lines_are (Split' w s (more_of-Tree low end_of-Tree) r (more_of-Tree high end_of-Tree)))) ∙ e) in
-    let same : w ≡ v = (let n = l.node in cc) in
-    record { low = low; high = high; is = split_is w low high s r ∙ ap (λ k. Split k low high) same; rest = sym (append_assoc (node_lines low) (node_lines high) x) ∙ l.rest }
-
-line_whole : (n : Node) → IsWholeLines (node_line n)
-line_whole n = inr (node_front n, line_is n)
 
 pub low_wrong : (spare v : ℕ) (text rest : List ℕ) (f : LineFault) → 2 ≤ spare → v < 10 ^ 19 → text ≡ node_line (Split_node v) ++ rest → IsLineFault (GoesWrong node_lines (IsWithin (spare - 2 + 1)) rest) f →
     IsLineFault (GoesWrong node_lines (IsWithin (spare + 1)) text) f

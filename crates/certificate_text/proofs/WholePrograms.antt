@@ -5,6 +5,7 @@ use Rattle.std.specs.List.{AllByRecursion, flat_map}
 use Rattle.std.specs.Prelude.{codes}
 use Rattle.std.specs.Fmt.{decimal, signed_decimal}
 use Rattle.merlin_model.specs.Programs.{Program, Row, variables, IsRow}
+use Rattle.merlin_model.proofs.Members.{all_right, all_both}
 use Rattle.certificate_text.specs.declared.fault.LineFault.{LineFault}
 use Rattle.certificate_text.specs.declared.fault.LineFault.TheVariants.{Wrong, Memory}
 use Rattle.merlin_base.specs.Faults.{IsWholeLines, IsFirstWrongLine, GoesWrong}
@@ -60,10 +61,6 @@ bad_head text (Wrong left) h = whole_wrong program_text IsProgramText text left
 rows_append : (xs ys : List Row) → rows_text (xs ++ ys) ≡ rows_text xs ++ rows_text ys
 rows_append [] ys = refl
 rows_append (x ∷ xs) ys = ap (λ z. row_line x ++ z) (rows_append xs ys) ∙ sym (append_assoc (row_line x) (rows_text xs) (rows_text ys))
-
-all_both : {X : Type 0} (P : X → Type 0) (xs ys : List X) → AllByRecursion P xs → AllByRecursion P ys → AllByRecursion P (xs ++ ys)
-all_both P [] ys a b = b
-all_both P (x ∷ xs) ys a b = (a.0, all_both P xs ys a.1 b)
 
 pub record AreMore (count done : ℕ) (more : List Row) : Type 0 where
   pub few : done + length more ≤ 16384
@@ -127,10 +124,6 @@ is-behind count rows p x u few each is e =
     (sym (append_assoc (head_text (variables p)) (rows_text p.rows ++ finish) x) ∙ e ∙ append_assoc (head_text count) (rows_text rows) u) in
     let h = has-more count rows p.rows x u few each (subst (λ n. AllByRecursion (IsRowLine n) p.rows) head.count is.rows) (sym (append_assoc (rows_text p.rows) finish x) ∙ head.rest) in
     record { same = head.count; more = h.more; is = h.is; text = h.text }
-
-all_right : {X : Type 0} (P : X → Type 0) (xs ys : List X) → AllByRecursion P (xs ++ ys) → AllByRecursion P ys
-all_right P [] ys h = h
-all_right P (x ∷ xs) ys h = all_right P xs ys h.1
 
 -- where neither a row nor the end can follow
 pub wrong_rows : (text rest : List ℕ) (count : ℕ) (rows : List Row) → text ≡ head_text count ++ (rows_text rows ++ rest) → count ≤ 32768 → length rows ≤ 16384 → AllByRecursion (IsRowLine count) rows →

@@ -4,6 +4,7 @@ ghost use Rattle.std.specs.Prelude.{ℕ, ◌≡◌, ◌<◌, ◌^◌, ◌++◌, 
 ghost use Rattle.std.specs.Fmt.{decimal};
 ghost use Rattle.merlin_model.specs.Trees.{Node};
 ghost use Rattle.merlin_model.specs.declared.certificate.Weight.{Weight};
+ghost use Rattle.merlin_base.specs.declared.limits.TheConstants.{MAX_DIGITS};
 ghost use Rattle.merlin_base.specs.Pairs.{pairs_text, ArePairs};
 ghost use Rattle.merlin_base.specs.NodeTexts.{pair_of, node_line, IsNodeLine};
 ghost use Rattle.certificate_text.specs.Outcomes.{IsLineFault, node_of};
@@ -11,14 +12,12 @@ ghost use Rattle.certificate_text.specs.Outcomes.{IsLineFault, node_of};
 use crate::fault::LineFault;
 use crate::pairs::read_pairs;
 use certificate::Weight;
-use merlin_base::{after, read_number, split_at_byte};
+use merlin_base::limits::NUMBERS;
+use merlin_base::{read_number, split_at_byte, strip_front};
 use merlin_model::OutOfMemory;
 use merlin_model::limits::MAX_WEIGHT;
 use sqlite_items::Items;
 use std::alloc::Global;
-
-// Numbers of variables and rows are below this.
-const NUMBERS: usize = 10_000_000_000_000_000_000;
 
 // the greatest weight, as the reader of numbers takes it
 const GREATEST_WEIGHT: usize = MAX_WEIGHT as usize;
@@ -33,8 +32,9 @@ pub enum Line {
 
 /// The number that fills the rest of a line, and what stands behind the line.
 pub fn number_line(text: &[u8]) -> Option<(usize, &[u8])>
-    ensures some { IfSome result (λ r. (text.now ≡ decimal r.0 ++ 10 ∷ r.1.now) × (r.0 < 10 ^ 19)) }
-    ensures none { IfNone result ((n : ℕ) (rest : List ℕ) → n < 10 ^ 19 →
+    ensures some { IfSome result (λ r.
+        (text.now ≡ decimal r.0 ++ 10 ∷ r.1.now) × (r.0 < 10 ^ MAX_DIGITS)) }
+    ensures none { IfNone result ((n : ℕ) (rest : List ℕ) → n < 10 ^ MAX_DIGITS →
         text.now ≡ decimal n ++ 10 ∷ rest → ⊥) }
 {
     let Some((digits, rest)) = split_at_byte(text, b'\n') else {
@@ -64,9 +64,9 @@ fn weights_of(alloc: Global, pairs: &[(usize, i64)]) -> Result<Items<Weight>, Ou
 fn weights_line(alloc: Global, text: &[u8]) -> Result<Option<(Items<Weight>, &[u8])>, OutOfMemory>
     ensures some { IfOk result (λ o. IfSome o (λ r.
         (text.now ≡ pairs_text (map pair_of r.0) ++ 10 ∷ r.1.now)
-        × ArePairs (10 ^ 19) MAX_WEIGHT (map pair_of r.0))) }
+        × ArePairs (10 ^ MAX_DIGITS) MAX_WEIGHT (map pair_of r.0))) }
     ensures none { IfOk result (λ o. IfNone o ((weights : List Weight) (rest : List ℕ) →
-        ArePairs (10 ^ 19) MAX_WEIGHT (map pair_of weights) →
+        ArePairs (10 ^ MAX_DIGITS) MAX_WEIGHT (map pair_of weights) →
         text.now ≡ pairs_text (map pair_of weights) ++ 10 ∷ rest → ⊥)) }
 {
     let Some((line, rest)) = split_at_byte(text, b'\n') else {
@@ -86,19 +86,19 @@ pub fn read_line(alloc: Global, text: &[u8]) -> Result<(Line, &[u8]), LineFault>
         × ((node : Node) (rest : List ℕ) → IsNodeLine node →
         text.now ≡ node_line node ++ rest → ⊥))) }
 {
-    if let Some(rest) = after(text, b"split ") {
+    if let Some(rest) = strip_front(text, b"split ") {
         return match number_line(rest) {
             Some((variable, rest)) => Ok((Line::Split(variable), rest)),
             None => Err(LineFault::Wrong(text.len())),
         };
     }
-    if let Some(rest) = after(text, b"leaf") {
+    if let Some(rest) = strip_front(text, b"leaf") {
         return match weights_line(alloc, rest)? {
             Some((weights, rest)) => Ok((Line::Leaf(weights), rest)),
             None => Err(LineFault::Wrong(text.len())),
         };
     }
-    if let Some(rest) = after(text, b"open\n") {
+    if let Some(rest) = strip_front(text, b"open\n") {
         return Ok((Line::Open, rest));
     }
     Err(LineFault::Wrong(text.len()))

@@ -1,6 +1,7 @@
 //! Lists of pairs as texts.
 
 ghost use Rattle.std.specs.Prelude.{ℕ, ◌≡◌, ◌≤◌, ◌<◌, ◌^◌, ◌++◌, ◌∷◌, ℤ, nat_abs, length, List, IfSome, IfNone, IfOk, Option};
+ghost use Rattle.merlin_base.specs.declared.limits.TheConstants.{MAX_DIGITS};
 ghost use Rattle.merlin_base.specs.Pairs.{pairs_text, ArePairs};
 
 use merlin_base::read_pair;
@@ -15,7 +16,7 @@ pub fn read_pairs(
     bound: usize,
     limit: usize,
 ) -> Result<Option<Items<(usize, i64)>>, OutOfMemory>
-    requires bound { bound ≤ 10 ^ 19 }
+    requires bound { bound ≤ 10 ^ MAX_DIGITS }
     requires limit { limit ≤ 2 ^ 60 }
     ensures some { IfOk result (λ o. IfSome o (λ pairs.
         (text.now ≡ pairs_text pairs) × ArePairs bound limit pairs)) }

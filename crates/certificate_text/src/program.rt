@@ -11,7 +11,7 @@ use crate::fault::LineFault;
 use crate::line::number_line;
 use crate::pairs::read_pairs;
 use integer_program::{PlainProgram, PlainRow, Program};
-use merlin_base::{after, cut_before, read_whole, split_at_byte};
+use merlin_base::{cut_before, read_whole, split_at_byte, strip_front};
 use merlin_model::OutOfMemory;
 use merlin_model::limits::{MAX_COEFFICIENT, MAX_RIGHT_SIDE, MAX_ROWS, MAX_VARIABLES};
 use std::alloc::Global;
@@ -34,10 +34,10 @@ fn read_head(text: &[u8]) -> Result<(usize, &[u8]), usize>
     ensures ok { IfOk result (λ r. (text.now ≡ head_text r.0 ++ r.1.now) × (r.0 ≤ MAX_VARIABLES)) }
     ensures err { IfErr result (GoesWrong head_text (λ count. count ≤ MAX_VARIABLES) text.now) }
 {
-    let Some(rest) = after(text, b"program 1\n") else {
+    let Some(rest) = strip_front(text, b"program 1\n") else {
         return Err(text.len());
     };
-    let Some(number) = after(rest, b"variables ") else {
+    let Some(number) = strip_front(rest, b"variables ") else {
         return Err(rest.len());
     };
     match number_line(number) {
@@ -57,10 +57,10 @@ fn read_kind(text: &[u8]) -> Option<(bool, &[u8])>
     ensures none { IfNone result ((is_equality : Bool) (rest : List ℕ) →
         text.now ≡ kind_word is_equality ++ rest → ⊥) }
 {
-    if let Some(rest) = after(text, b"row le ") {
+    if let Some(rest) = strip_front(text, b"row le ") {
         return Some((false, rest));
     }
-    let rest = after(text, b"row eq ")?;
+    let rest = strip_front(text, b"row eq ")?;
     Some((true, rest))
 }
 
@@ -103,7 +103,7 @@ fn read_whole_program(alloc: Global, text: &[u8]) -> Result<PlainProgram, LineFa
     let (count, mut rest) = read_head(text)?;
     let mut program = PlainProgram::new(alloc, count);
     'rows: loop {
-        if let Some(more) = after(rest, b"end\n") {
+        if let Some(more) = strip_front(rest, b"end\n") {
             if more.is_empty() {
                 return Ok(program);
             }

@@ -14,7 +14,7 @@ ghost use Rattle.certificate_text.specs.TreeAnswers.{IsTreeFault};
 use crate::fault::LineFault;
 use crate::line::{Line, read_line};
 use certificate::{Tree, Weight};
-use merlin_base::after;
+use merlin_base::strip_front;
 use merlin_model::limits::MAX_NODES;
 use merlin_model::{Name, OutOfMemory, name_from};
 use sqlite_items::Boxed;
@@ -70,11 +70,11 @@ fn read_whole_tree(alloc: Global, text: &[u8]) -> Result<Tree, LineFault>
     ensures err { IfErr result (IsLineFault (λ left. (left ≤ length text.now)
         × IsFirstWrongLine tree_text IsTreeText text.now (length text.now - left))) }
 {
-    let Some(nodes) = after(text, b"tree\n") else {
+    let Some(nodes) = strip_front(text, b"tree\n") else {
         return Err(LineFault::Wrong(text.len()));
     };
     let (tree, rest, _spare) = read_nodes(alloc, nodes, FURTHER_NODES)?;
-    let Some(more) = after(rest, b"end\n") else {
+    let Some(more) = strip_front(rest, b"end\n") else {
         return Err(LineFault::Wrong(rest.len()));
     };
     if more.is_empty() {

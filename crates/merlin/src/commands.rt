@@ -1,4 +1,4 @@
-// The commands. A new one has a line in each of these functions.
+//! The commands. A new one has a line in each of these functions.
 ghost use Rattle.std.specs.Prelude.{◌≡◌, length, IfOk, IfErr, IfSome, IfNone};
 ghost use Rattle.merlin.specs.Words.{word_texts};
 ghost use Rattle.merlin.specs.Reading.{AreContents, IsUnread, texts_read};

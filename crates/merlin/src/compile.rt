@@ -1,4 +1,4 @@
-// The command `compile`.
+//! The command `compile`.
 ghost use Rattle.std.specs.Prelude.{◌≡◌, ◌≢◌, ◌++◌, ℕ, OnOk, IfOk, IfSome, IfNone, codes};
 ghost use Rattle.std.specs.String.{string_bytes};
 ghost use Rattle.config_text.specs.Words.{line};

@@ -1,4 +1,4 @@
-// From the bytes of a policy and a topology to a result.
+//! From the bytes of a policy and a topology to a result.
 ghost use Rattle.std.specs.Prelude.{◌≡◌, [], ℕ, List, IfOk, IfErr, OnOk, IsTrue, ◌↔◌};
 ghost use Rattle.config_text.specs.Lines.{IsConfigOver};
 ghost use Rattle.merlin_model.specs.Assignments.{value_of};

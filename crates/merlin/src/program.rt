@@ -1,4 +1,4 @@
-// A run of the program.
+//! A run of the program.
 ghost use Rattle.std.specs.Prelude.{◌≡◌, IfOk};
 ghost use Rattle.merlin.specs.Words.{word_texts};
 ghost use Rattle.merlin.specs.Outcome.{IsOutcome, SaysByStatus, behaviour_by, world_of, taking_of};

@@ -1,4 +1,4 @@
-// The files of a command, read in the order of its words.
+//! The files of a command, read in the order of its words.
 ghost use Rattle.std.specs.Prelude.{◌≡◌, ◌∷◌, [], IfOk, IfErr};
 ghost use Rattle.merlin_base.specs.Outside.{NoneFalls};
 ghost use Rattle.merlin.specs.declared.reading.Unread.TheVariants as unread;

@@ -1,4 +1,4 @@
-// What refusals are called in the line that tells of them.
+//! What refusals are called in the line that tells of them.
 ghost use Rattle.std.specs.Prelude.{◌≡◌, ◌++◌, IfOk};
 ghost use Rattle.std.specs.Fmt.{decimal};
 ghost use Rattle.merlin.specs.Compiler.{early_fault_text as text_of_early_fault};

@@ -1,4 +1,4 @@
-// The command `refute`.
+//! The command `refute`.
 ghost use Rattle.std.specs.Prelude.{◌≡◌, IfOk, IfSome, IfNone};
 ghost use Rattle.merlin.specs.Words.{word_texts};
 ghost use Rattle.merlin.specs.Reading.{files_wanted};

@@ -1,4 +1,4 @@
-// What is said of a command line, and how its run ends.
+//! What is said of a command line, and how its run ends.
 ghost use Rattle.std.specs.Prelude.{◌≡◌, ◌++◌, ◌∷◌, [], OnOk, IfOk};
 ghost use Rattle.std.specs.Fmt.{decimal};
 ghost use Rattle.config_text.specs.Words.{line};

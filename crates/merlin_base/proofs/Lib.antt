@@ -17,3 +17,4 @@ pub mod LineSkips
 pub mod TreeSkips
 pub mod WholeSkips
 pub mod Passing
+pub mod Ranges

@@ -5,8 +5,8 @@ use Rattle.std.specs.Fmt.{decimal}
 use Rattle.merlin_model.specs.Trees.{Node, Leaf_node, Split_node, Open_end}
 use Rattle.merlin_base.specs.Lexemes.{Lacks}
 use Rattle.merlin_base.specs.Pairs.{pairs_text, ArePairs}
-use Rattle.merlin_base.specs.NodeTexts.{pair_of, MayStand}
-use Rattle.merlin_base.specs.Skipping.{IsPairsText, BeginsNumberLine, BeginsWeightsLine, BeginsNodeLine}
+use Rattle.merlin_base.specs.NodeTexts.{pair_of, node_line, IsNodeLine, MayStand}
+use Rattle.merlin_base.specs.Skipping.{is_split, IsPairsText, BeginsNumberLine, BeginsWeightsLine, BeginsNodeLine}
 use Rattle.merlin_base.proofs.NodeLines.{bad_split, bad_leaf, split_text, leaf_text, no_number, no_weights, no_end}
 
 pub no_newline : (text : List ℕ) → Lacks 10 text → (rest : List ℕ) → ¬ BeginsNumberLine text rest
@@ -38,23 +38,17 @@ no_weights_line text line rest e lacks none more is =
 no_open : (unclosed : Bool) (node : Node) → (node ≡ Open_end → ⊥) → MayStand unclosed node
 no_open unclosed node differ = λ _. differ
 
+closed_line : (unclosed : Bool) (text rest : List ℕ) (node : Node) → text ≡ node_line node ++ rest → IsNodeLine node → (node ≡ Open_end → ⊥) → BeginsNodeLine unclosed text (is_split node) rest
+closed_line unclosed text rest node whole line differ =
+    record { node = node; whole = whole; line = line; stands = no_open unclosed node differ; split_is = refl }
+
 pub split_line : (unclosed : Bool) (text digits rest : List ℕ) → text ≡ codes "split " ++ digits → BeginsNumberLine digits rest → BeginsNodeLine unclosed text true rest
-split_line unclosed text digits rest e is = record {
-  node = Split_node is.number;
-  whole = split_text text digits rest is.number e is.whole;
-  line = is.short;
-  stands = no_open unclosed (Split_node is.number) (λ h. let no_way : Split_node is.number ≡ Open_end → ⊥ = λ k. cc in no_way h);
-  split_is = refl;
-}
+split_line unclosed text digits rest e is =
+    closed_line unclosed text rest (Split_node is.number) (split_text text digits rest is.number e is.whole) is.short (λ h. let no_way : Split_node is.number ≡ Open_end → ⊥ = λ k. cc in no_way h)
 
 pub leaf_line : (unclosed : Bool) (text pairs rest : List ℕ) → text ≡ codes "leaf" ++ pairs → BeginsWeightsLine pairs rest → BeginsNodeLine unclosed text false rest
-leaf_line unclosed text pairs rest e is = record {
-  node = Leaf_node is.weights;
-  whole = leaf_text text pairs rest is.weights e is.whole;
-  line = is.are;
-  stands = no_open unclosed (Leaf_node is.weights) (λ h. let no_way : Leaf_node is.weights ≡ Open_end → ⊥ = λ k. cc in no_way h);
-  split_is = refl;
-}
+leaf_line unclosed text pairs rest e is =
+    closed_line unclosed text rest (Leaf_node is.weights) (leaf_text text pairs rest is.weights e is.whole) is.are (λ h. let no_way : Leaf_node is.weights ≡ Open_end → ⊥ = λ k. cc in no_way h)
 
 pub no_split_line : (unclosed : Bool) (text digits : List ℕ) → text ≡ codes "split " ++ digits → ((rest : List ℕ) → ¬ BeginsNumberLine digits rest) → (split : Bool) (rest : List ℕ) → ¬ BeginsNodeLine unclosed text split rest
 no_split_line unclosed text digits e none split rest is =

@@ -6,6 +6,7 @@ use Rattle.merlin_model.specs.declared.certificate.Tree.TheBlock.{hidden-the_row
 use denote.Hole.Carrier.{hidden}
 use Rattle.merlin_model.specs.declared.certificate.Tree.{Tree, Leaf, Split, Split', Unclosed, end_of-Tree, more_of-Tree}
 use Rattle.merlin_model.specs.Trees.{Node, Leaf_node, Split_node, Open_end, nodes_of, nodes_of-Split, fix}
+use Rattle.merlin_model.proofs.Members.{all_left, all_right, all_both}
 use Rattle.merlin_base.specs.Faults.{IsWholeLines}
 use Rattle.merlin_base.specs.NodeTexts.{node_line, IsNodeLine, nodes_in, node_lines}
 use Rattle.merlin_base.proofs.NodeLines.{node_front, IsSameLine, line_once}
@@ -39,18 +40,6 @@ pub lines_are : (tree : Tree) → node_lines tree ≡ node_line (root tree) ++ l
 lines_are (Leaf ws) = refl
 lines_are (Split' v s (more_of-Tree low end_of-Tree) t (more_of-Tree high end_of-Tree)) = ap node_lines (split_is v low high s t) ∙ node_lines-Split v low high
 lines_are Unclosed = refl
-
-pub all_left : {X : Type 0} (P : X → Type 0) (xs ys : List X) → AllByRecursion P (xs ++ ys) → AllByRecursion P xs
-all_left P [] ys h = tt
-all_left P (x ∷ xs) ys h = (h.0, all_left P xs ys h.1)
-
-pub all_right : {X : Type 0} (P : X → Type 0) (xs ys : List X) → AllByRecursion P (xs ++ ys) → AllByRecursion P ys
-all_right P [] ys h = h
-all_right P (x ∷ xs) ys h = all_right P xs ys h.1
-
-pub all_both : {X : Type 0} (P : X → Type 0) (xs ys : List X) → AllByRecursion P xs → AllByRecursion P ys → AllByRecursion P (xs ++ ys)
-all_both P [] ys a b = b
-all_both P (x ∷ xs) ys a b = (a.0, all_both P xs ys a.1 b)
 
 abbrev pub AreLines : Tree → Type 0
 AreLines tree = AllByRecursion IsNodeLine (nodes_in tree)

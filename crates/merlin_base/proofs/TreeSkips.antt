@@ -7,7 +7,8 @@ use Rattle.merlin_base.specs.Faults.{IsWholeLines, GoesWrong}
 use Rattle.merlin_base.specs.NodeTexts.{node_line, IsNodeLine, nodes_in, node_lines, MayStand, IsTakenTree}
 use Rattle.merlin_base.specs.Skipping.{is_split, BeginsNodeLine, BeginsTree}
 use Rattle.merlin_base.proofs.NodeLines.{node_front, front_free, line_behind, line_once, line_is}
-use Rattle.merlin_base.proofs.NodeTexts.{all_left, all_right, all_both, nodes_in-Split, root, later, lines_are, AreLines, root_line, split_lines, halves, some_node, split_count, node_lines-Split, tree_once, lines_whole, split_is}
+use Rattle.merlin_model.proofs.Members.{all_left, all_right, all_both}
+use Rattle.merlin_base.proofs.NodeTexts.{nodes_in-Split, root, later, lines_are, AreLines, root_line, split_lines, halves, some_node, split_count, node_lines-Split, tree_once, lines_whole, split_is}
 use Rattle.merlin_base.proofs.WrongLines.{line_wrong, lift_wrong, whole_lines}
 
 abbrev pub AreTaken : Bool → Tree → Type 0
@@ -50,12 +51,12 @@ one_leaf unclosed spare = record {
   stand = (leaf_stands unclosed, tt);
 }
 
-first_of : (t : Tree) → node_lines t ≡ node_front (root t) ++ 10 ∷ later t
-first_of t = lines_are t ∙ line_behind (root t) (later t)
+pub first_line : (t : Tree) → node_lines t ≡ node_front (root t) ++ 10 ∷ later t
+first_line t = lines_are t ∙ line_behind (root t) (later t)
 
 pub no_first : (unclosed : Bool) (spare : ℕ) (text : List ℕ) → ((split : Bool) (rest : List ℕ) → ¬ BeginsNodeLine unclosed text split rest) → GoesWrong node_lines (IsTakenTree unclosed (spare + 1)) text (length text)
 no_first unclosed spare text none =
-    line_wrong node_lines (IsTakenTree unclosed (spare + 1)) (λ t. node_front (root t)) later text (Leaf []) (one_leaf unclosed spare) first_of (λ t is. front_free (root t) (root_line t is.within.each))
+    line_wrong node_lines (IsTakenTree unclosed (spare + 1)) (λ t. node_front (root t)) later text (Leaf []) (one_leaf unclosed spare) first_line (λ t is. front_free (root t) (root_line t is.within.each))
     (λ t rest is e. none (is_split (root t)) rest (record {
       node = root t;
       whole = e ∙ sym (line_behind (root t) rest);
@@ -93,7 +94,7 @@ split_line_of unclosed text rest split splits is = by is.node is.whole is.line (
     by (Leaf_node ws) e line h = absurd (let no_way : false ≡ true → ⊥ = λ k. cc in no_way h)
     by Open_end e line h = absurd (let no_way : false ≡ true → ⊥ = λ k. cc in no_way h)
 
-three : (t : Tree) (v : ℕ) → root t ≡ Split_node v → 3 ≤ length (nodes_in t)
+pub three : (t : Tree) (v : ℕ) → root t ≡ Split_node v → 3 ≤ length (nodes_in t)
 three (Leaf ws) v e = absurd (let no_way : Leaf_node ws ≡ Split_node v → ⊥ = λ h. cc in no_way e)
 three (Split' u s (more_of-Tree low end_of-Tree) t (more_of-Tree high end_of-Tree)) v e =
     subst (λ w. 3 ≤ length (nodes_in w)) (sym (split_is u low high s t)) (let n = split_count u low high in let a = some_node low in let b = some_node high in omega arith)
@@ -101,19 +102,19 @@ three Unclosed v e = absurd (let no_way : Open_end ≡ Split_node v → ⊥ = λ
 
 pub too_many : (unclosed : Bool) (spare : ℕ) (text rest : List ℕ) → spare < 2 → IsSplitLine text rest → GoesWrong node_lines (IsTakenTree unclosed (spare + 1)) text (length text)
 too_many unclosed spare text rest few split =
-    line_wrong node_lines (IsTakenTree unclosed (spare + 1)) (λ t. node_front (root t)) later text (Leaf []) (one_leaf unclosed spare) first_of (λ t w. front_free (root t) (root_line t w.within.each))
+    line_wrong node_lines (IsTakenTree unclosed (spare + 1)) (λ t. node_front (root t)) later text (Leaf []) (one_leaf unclosed spare) first_line (λ t w. front_free (root t) (root_line t w.within.each))
     (λ t r w h.
     let same = line_once (root t) (Split_node split.variable) r rest (root_line t w.within.each) split.short (line_behind (root t) r ∙ sym h ∙ split.whole) in
     let n = three t split.variable same.node in let m = w.within.few in omega arith)
 
 -- A tree whose text begins with a split's line is a split.
-record IsSplitTree (t : Tree) (v : ℕ) (x u : List ℕ) : Type 0 where
-  low : Tree
-  high : Tree
-  is : t ≡ Split v low high
-  rest : node_lines low ++ (node_lines high ++ x) ≡ u
+pub record IsSplitTree (t : Tree) (v : ℕ) (x u : List ℕ) : Type 0 where
+  pub low : Tree
+  pub high : Tree
+  pub is : t ≡ Split v low high
+  pub rest : node_lines low ++ (node_lines high ++ x) ≡ u
 
-split_down : (t : Tree) (v : ℕ) (x u : List ℕ) → AreLines t → v < 10 ^ 19 → node_lines t ++ x ≡ node_line (Split_node v) ++ u → IsSplitTree t v x u
+pub split_down : (t : Tree) (v : ℕ) (x u : List ℕ) → AreLines t → v < 10 ^ 19 → node_lines t ++ x ≡ node_line (Split_node v) ++ u → IsSplitTree t v x u
 split_down (Leaf ws) v x u all is e =
     let l = line_once (Leaf_node ws) (Split_node v) x u all.0 is (sym (append_assoc (node_line (Leaf_node ws)) [] x) ∙ e) in absurd (let no_way : Leaf_node ws ≡ Split_node v → ⊥ = λ h. cc in no_way l.node)
 split_down Unclosed v x u all is e =
@@ -124,7 +125,7 @@ split_down (Split' w s (more_of-Tree low end_of-Tree) r (more_of-Tree high end_o
     let same : w ≡ v = (let n = l.node in cc) in
     record { low = low; high = high; is = split_is w low high s r ∙ ap (λ k. Split k low high) same; rest = sym (append_assoc (node_lines low) (node_lines high) x) ∙ l.rest }
 
-line_whole : (n : Node) → IsWholeLines (node_line n)
+pub line_whole : (n : Node) → IsWholeLines (node_line n)
 line_whole n = inr (node_front n, line_is n)
 
 pub low_wrong : (unclosed : Bool) (spare : ℕ) (text rest : List ℕ) (left : ℕ) → 2 ≤ spare → IsSplitLine text rest → GoesWrong node_lines (IsTakenTree unclosed (spare - 2 + 1)) rest left →

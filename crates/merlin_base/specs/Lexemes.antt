@@ -2,6 +2,8 @@
 use Rattle.std.specs.Prelude.{◌≡◌, ◌≢◌, ◌⊎◌, ◌+◌, ◌-◌, ◌*◌, ◌<◌, ◌≤◌, ◌^◌, ℕ, List, [], ◌∷◌, ◌++◌, length, slice_index, Bool, IsTrue, codes, All, Option, Some, None, if◌then◌else◌}
 use Rattle.std.specs.Str.{bytes_eq}
 use Rattle.std.specs.List.{list_any}
+use Rattle.merlin_model.specs.declared.limits.TheConstants.{MAX_RATE}
+use Rattle.merlin_base.specs.declared.limits.TheConstants.{MAX_DIGITS, MAX_NAME_BYTES}
 
 abbrev pub IsDigit : ℕ → Type 0
 IsDigit c = (48 ≤ c) × (c ≤ 57)
@@ -14,11 +16,11 @@ abbrev pub number_of : List ℕ → ℕ
 number_of [] = 0
 number_of (c ∷ cs) = (c - 48) * 10 ^ length cs + number_of cs
 
--- 1 to 19 digits, the first of which is 0 only where it is the only one, and their number
+-- some digits, the first of which is 0 only where it is the only one, and their number
 pub record IsDecimal (text : List ℕ) (n : ℕ) : Type 0 where
   pub digits : AreDigits text
   pub some : 0 < length text
-  pub short : length text ≤ 19
+  pub short : length text ≤ MAX_DIGITS
   pub plain : slice_index text 0 ≡ 48 → length text ≡ 1
   pub value : n ≡ number_of text
 
@@ -42,10 +44,10 @@ abbrev pub IsIdentifier : List ℕ → Type 0
 IsIdentifier [] = ⊥
 IsIdentifier (c ∷ cs) = IsLetter c × AreNameBytes cs
 
--- an identifier of at most 32 bytes that is no word of the language
+-- a short identifier that is no word of the language
 pub record IsName (text : List ℕ) : Type 0 where
   pub identifier : IsIdentifier text
-  pub short : length text ≤ 32
+  pub short : length text ≤ MAX_NAME_BYTES
   pub no_word : IsTrue (is_word text) → ⊥
 
 -- a hexadecimal digit of either case, and its value
@@ -100,7 +102,7 @@ unit_of text =
     if bytes_eq text (codes "MB/s") then Some 8000 else
     if bytes_eq text (codes "GB/s") then Some 8000000 else None
 
--- a number and its unit, at most 10^9 kbit/s
+-- a number and its unit, with its value in kbit/s
 pub record IsRate (text : List ℕ) (rate : ℕ) : Type 0 where
   pub number : List ℕ
   pub unit : List ℕ
@@ -110,4 +112,4 @@ pub record IsRate (text : List ℕ) (rate : ℕ) : Type 0 where
   pub decimal : IsDecimal number n
   pub known : unit_of unit ≡ Some factor
   pub value : rate ≡ n * factor
-  pub few : rate ≤ 1000000000
+  pub few : rate ≤ MAX_RATE

@@ -6,6 +6,7 @@ use Rattle.merlin_model.specs.declared.certificate.Weight.{Weight}
 use Rattle.merlin_model.specs.declared.certificate.Tree.{Tree}
 use Rattle.merlin_model.specs.Trees.{Node, Leaf_node, Split_node, Open_end, nodes_of}
 use Rattle.merlin_model.specs.declared.limits.TheConstants.{MAX_WEIGHT}
+use Rattle.merlin_base.specs.declared.limits.TheConstants.{MAX_DIGITS}
 use Rattle.merlin_base.specs.Pairs.{pairs_text, ArePairs}
 
 abbrev pub pair_of : Weight → ℕ × ℤ
@@ -16,10 +17,10 @@ node_line (Split_node variable) = codes "split " ++ (decimal variable ++ 10 ∷ 
 node_line (Leaf_node weights) = codes "leaf" ++ (pairs_text (map pair_of weights) ++ 10 ∷ [])
 node_line Open_end = codes "open" ++ 10 ∷ []
 
--- numbers of variables and rows have at most 19 digits, rows ascend, and weights aren't 0 and are within their limit
+-- numbers of variables and rows have at most `MAX_DIGITS` digits, rows ascend, and weights aren't 0 and are within their limit
 abbrev pub IsNodeLine : Node → Type 0
-IsNodeLine (Split_node variable) = variable < 10 ^ 19
-IsNodeLine (Leaf_node weights) = ArePairs (10 ^ 19) MAX_WEIGHT (map pair_of weights)
+IsNodeLine (Split_node variable) = variable < 10 ^ MAX_DIGITS
+IsNodeLine (Leaf_node weights) = ArePairs (10 ^ MAX_DIGITS) MAX_WEIGHT (map pair_of weights)
 IsNodeLine Open_end = Unit {0}
 
 -- the nodes in preorder, whatever their boxes are

@@ -6,6 +6,7 @@ use Rattle.merlin_model.specs.declared.certificate.Weight.{Weight}
 use Rattle.merlin_model.specs.declared.certificate.Tree.{Tree}
 use Rattle.merlin_model.specs.Trees.{Node, Leaf_node, Split_node, Open_end}
 use Rattle.merlin_model.specs.declared.limits.TheConstants.{MAX_WEIGHT, MAX_NODES}
+use Rattle.merlin_base.specs.declared.limits.TheConstants.{MAX_DIGITS}
 use Rattle.merlin_base.specs.Pairs.{pairs_text, ArePairs}
 use Rattle.merlin_base.specs.Faults.{GoesWrong}
 use Rattle.merlin_base.specs.NodeTexts.{pair_of, node_line, IsNodeLine, nodes_in, node_lines, nodes_text, MayStand, IsTakenTree}
@@ -19,13 +20,13 @@ pub record IsPairsText (bound limit : ℕ) (text : List ℕ) : Type 0 where
 -- the text begins with a number and a newline
 pub record BeginsNumberLine (text rest : List ℕ) : Type 0 where
   pub number : ℕ
-  pub short : number < 10 ^ 19
+  pub short : number < 10 ^ MAX_DIGITS
   pub whole : text ≡ decimal number ++ 10 ∷ rest
 
 -- the text begins with weights and a newline
 pub record BeginsWeightsLine (text rest : List ℕ) : Type 0 where
   pub weights : List Weight
-  pub are : ArePairs (10 ^ 19) MAX_WEIGHT (map pair_of weights)
+  pub are : ArePairs (10 ^ MAX_DIGITS) MAX_WEIGHT (map pair_of weights)
   pub whole : text ≡ pairs_text (map pair_of weights) ++ 10 ∷ rest
 
 abbrev pub is_split : Node → Bool

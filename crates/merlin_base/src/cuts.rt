@@ -19,7 +19,7 @@ pub fn cut_before(text: &[u8], byte: u8) -> (&[u8], &[u8])
 }
 
 /// What stands behind this front. None where the text doesn't begin with it.
-pub fn after<'a>(text: &'a [u8], front: &[u8]) -> Option<&'a [u8]>
+pub fn strip_front<'a>(text: &'a [u8], front: &[u8]) -> Option<&'a [u8]>
     ensures some { IfSome result (λ rest. text.now ≡ front.now ++ rest.now) }
     ensures none { IfNone result ((rest : List ℕ) → text.now ≡ front.now ++ rest → ⊥) }
 {

@@ -1,10 +1,14 @@
-// Readers of single lexemes.
+//! Readers of single lexemes.
 ghost use Rattle.std.specs.Prelude.{◌≡◌, ◌+◌, ◌*◌, ◌≤◌, ◌<◌, ◌↔◌, ℕ, List, IsTrue, IfSome, IfNone, length, ◌⊎◌, ◌++◌, ◌∷◌};
+ghost use Rattle.merlin_base.specs.declared.limits.TheConstants.{MAX_DIGITS};
 ghost use Rattle.merlin_base.specs.Lexemes.{AreDigits, IsDecimal, IsLetter, IsDigit, IsName, IsNameByte, AreNameBytes, IsIdentifier, is_word as is_word_of, number_of, IsHexDigit, IsHexPair, IsThen, IsMac, IsOctet, IsIp, Lacks, unit_of, IsRate};
+
+use crate::limits::{MAX_DIGITS, MAX_NAME_BYTES};
+use merlin_model::limits::MAX_RATE;
 
 // The number that the digits stand for, if these are digits.
 fn digits_value(digits: &[u8]) -> Option<u64>
-    requires { length digits.now ≤ 19 }
+    requires { length digits.now ≤ MAX_DIGITS }
     ensures value { IfSome result (λ n. AreDigits digits.now × (n ≡ number_of digits.now)) }
     ensures none { IfNone result (AreDigits digits.now → ⊥) }
 {
@@ -18,7 +22,7 @@ fn digits_value(digits: &[u8]) -> Option<u64>
     Some(value)
 }
 
-/// The number that the text stands for. None where it isn't 1 to 19 digits without a leading zero.
+/// The number that the text stands for. None where it isn't 1 to `MAX_DIGITS` digits without a leading zero.
 pub fn read_decimal(text: &[u8]) -> Option<u64>
     ensures value { IfSome result (IsDecimal text.now) }
     ensures none { IfNone result ((n : ℕ) → IsDecimal text.now n → ⊥) }
@@ -26,7 +30,7 @@ pub fn read_decimal(text: &[u8]) -> Option<u64>
     match text {
         [] => None,
         [b'0', _, ..] => None,
-        _ if text.len() > 19 => None,
+        _ if text.len() > MAX_DIGITS => None,
         _ => digits_value(text),
     }
 }
@@ -88,7 +92,7 @@ fn is_word(text: &[u8]) -> bool
 pub fn is_name(text: &[u8]) -> bool
     ensures { IsTrue result ↔ IsName text.now }
 {
-    text.len() <= 32 && is_identifier(text) && !is_word(text)
+    text.len() <= MAX_NAME_BYTES && is_identifier(text) && !is_word(text)
 }
 
 fn hex_digit_value(byte: u8) -> Option<u8>
@@ -213,8 +217,6 @@ fn unit_factor(unit: &[u8]) -> Option<u64>
         None
     }
 }
-
-const MAX_RATE: u64 = 1_000_000_000;
 
 /// The rate of a text in kbit/s: a number and its unit.
 pub fn rate_value(text: &[u8]) -> Option<u64>

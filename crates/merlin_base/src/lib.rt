@@ -4,6 +4,7 @@
 mod addresses;
 mod cuts;
 mod lexemes;
+pub mod limits;
 mod memory;
 mod nodes;
 mod number_texts;
@@ -14,7 +15,7 @@ mod system;
 mod transfer;
 
 pub use addresses::{ip_text, mac_text};
-pub use cuts::{after, cut_before};
+pub use cuts::{cut_before, strip_front};
 pub use lexemes::{
     ip_value, is_digit, is_identifier, is_letter, is_name, is_name_byte, mac_value, rate_value,
     read_decimal, split_at_byte,

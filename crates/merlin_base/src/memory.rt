@@ -1,4 +1,4 @@
-// Files and sinks in memory, which tell all that they hold.
+//! Files and sinks in memory, which tell all that they hold.
 ghost use Rattle.std.specs.Prelude.{◌≡◌, ◌≤◌, ◌<◌, ◌+◌, ℕ, List, [], length, take, drop, IsTrue, if◌then◌else◌, nat_lt, unwrap_or, ◌++◌, ◌==◌, ◌-◌, ◌^◌, Some, None, IfOk, OnOk, OnErr, IsErrOf};
 ghost use Rattle.std.specs.List.{list_any};
 ghost use Rattle.merlin_base.specs.Outside.{Rose, FailsOnlyIf, NoneFalls, EachRose, IsReadUpTo, GivesNext};

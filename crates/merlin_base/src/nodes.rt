@@ -6,14 +6,12 @@ ghost use Rattle.merlin_base.specs.Faults.{GoesWrong};
 ghost use Rattle.merlin_base.specs.NodeTexts.{node_lines, nodes_text, IsTakenTree};
 ghost use Rattle.merlin_base.specs.Skipping.{BeginsNumberLine, BeginsWeightsLine, BeginsNodeLine, BeginsTree, BeginsNodes, EndsNodesAt, StopsNodesAt};
 
-use crate::cuts::after;
+use crate::cuts::strip_front;
 use crate::lexemes::split_at_byte;
+use crate::limits::NUMBERS;
 use crate::number_texts::read_number;
 use crate::pairs::are_pairs;
 use merlin_model::limits::{MAX_NODES, MAX_WEIGHT};
-
-// Numbers of variables and rows are below this: they have at most 19 digits.
-const NUMBERS: usize = 10_000_000_000_000_000_000;
 
 // The greatest weight, as the reader of numbers takes it.
 const GREATEST_WEIGHT: usize = MAX_WEIGHT as usize;
@@ -50,18 +48,18 @@ fn skip_line(text: &[u8], unclosed: bool) -> Option<(bool, &[u8])>
     ensures none { IfNone result ((split : Bool) (rest : List ℕ) →
         ¬ BeginsNodeLine unclosed text.now split rest) }
 {
-    if let Some(digits) = after(text, b"split ") {
+    if let Some(digits) = strip_front(text, b"split ") {
         let rest = skip_number_line(digits)?;
         return Some((true, rest));
     }
-    if let Some(weights) = after(text, b"leaf") {
+    if let Some(weights) = strip_front(text, b"leaf") {
         let rest = skip_weights_line(weights)?;
         return Some((false, rest));
     }
     if !unclosed {
         return None;
     }
-    let rest = after(text, b"open\n")?;
+    let rest = strip_front(text, b"open\n")?;
     Some((false, rest))
 }
 
@@ -90,7 +88,7 @@ fn skip_whole(text: &[u8], unclosed: bool) -> Result<&[u8], usize>
     ensures err { IfErr result (GoesWrong nodes_text (IsTakenTree unclosed MAX_NODES) text.now) }
 {
     let (rest, _) = skip_tree(text, unclosed, FURTHER_NODES)?;
-    match after(rest, b"end\n") {
+    match strip_front(rest, b"end\n") {
         Some(more) => Ok(more),
         None => Err(rest.len()),
     }

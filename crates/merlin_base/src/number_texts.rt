@@ -1,15 +1,16 @@
 //! Numbers as texts, without a leading zero.
 
 ghost use Rattle.std.specs.Prelude.{ℕ, ◌≡◌, ◌≤◌, ◌<◌, ◌^◌, ℤ, nat_abs, IfSome, IfNone};
+ghost use Rattle.merlin_base.specs.declared.limits.TheConstants.{MAX_DIGITS};
 ghost use Rattle.std.specs.Fmt.{decimal, signed_decimal};
 
-use crate::cuts::after;
+use crate::cuts::strip_front;
 use crate::lexemes::read_decimal;
 
-/// The number of at most 19 digits that the text is.
+/// The number of at most `MAX_DIGITS` digits that the text is.
 pub fn read_number(text: &[u8]) -> Option<usize>
-    ensures some { IfSome result (λ n. (text.now ≡ decimal n) × (n < 10 ^ 19)) }
-    ensures none { IfNone result ((n : ℕ) → n < 10 ^ 19 → text.now ≡ decimal n → ⊥) }
+    ensures some { IfSome result (λ n. (text.now ≡ decimal n) × (n < 10 ^ MAX_DIGITS)) }
+    ensures none { IfNone result ((n : ℕ) → n < 10 ^ MAX_DIGITS → text.now ≡ decimal n → ⊥) }
 {
     match read_decimal(text) {
         Some(number) => Some(number as usize),
@@ -19,7 +20,7 @@ pub fn read_number(text: &[u8]) -> Option<usize>
 
 /// The number up to a limit that the text is.
 fn read_up_to(text: &[u8], limit: usize) -> Option<usize>
-    requires { limit < 10 ^ 19 }
+    requires { limit < 10 ^ MAX_DIGITS }
     ensures some { IfSome result (λ n. (text.now ≡ decimal n) × (n ≤ limit)) }
     ensures none { IfNone result ((n : ℕ) → n ≤ limit → text.now ≡ decimal n → ⊥) }
 {
@@ -35,7 +36,7 @@ pub fn read_whole(text: &[u8], limit: usize) -> Option<i64>
     ensures some { IfSome result (λ z. (text.now ≡ signed_decimal z) × (nat_abs z ≤ limit)) }
     ensures none { IfNone result ((z : ℤ) → nat_abs z ≤ limit → text.now ≡ signed_decimal z → ⊥) }
 {
-    match after(text, b"-") {
+    match strip_front(text, b"-") {
         Some(digits) => match read_up_to(digits, limit) {
             Some(size) => {
                 if size == 0 {

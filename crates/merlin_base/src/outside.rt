@@ -1,4 +1,4 @@
-// Files and a sink, by what they tell and by the count of their faults.
+//! Files and a sink, by what they tell and by the count of their faults.
 ghost use Rattle.std.specs.Prelude.{◌≡◌, ◌<◌, ◌≤◌, List, [], ℕ, Option, length, take, OnOk, OnErr, IfOk};
 ghost use Rattle.std.specs.Io.{ReadsAtMost};
 ghost use Rattle.merlin_base.specs.Outside.{KnownContents, Rose, IsReadUpTo, NoneFalls, EachRose, FailsOnlyIf, Grows, GivesNext};

@@ -1,4 +1,4 @@
-// A whole file, and a whole piece.
+//! A whole file, and a whole piece.
 ghost use Rattle.std.specs.Prelude.{◌≡◌, ◌≤◌, ℕ, vec_len, OnOk, OnErr, IfOk, IsErrOf};
 ghost use Rattle.merlin_base.specs.Outside.{Rose, IsFile, IsLongerThan, NoneFalls, FailsOnlyIf, Grows, GrowsByPrefix};
 ghost use Rattle.merlin_base.specs.Texts.{joined};

@@ -26,22 +26,25 @@ paired (x ∷ ws) v w p (inl e) (inr j) = inr (inl (subst (λ y. AreApart y w) (
 paired (x ∷ ws) v w p (inr i) (inl f) = inr (inr (subst (λ y. AreApart y v) (sym f) (all_in (AreApart x) ws v p.0 i)))
 paired (x ∷ ws) v w p (inr i) (inr j) = paired ws v w p.1 i j
 
+unless : {A B : Type 0} → A ⊎ B → ¬ B → A
+unless (inl a) never = a
+unless (inr b) never = absurd (never b)
+
 module _ (net : Network) (ok : IsNetwork net) where
-  pub same_by_port : (v w : DirectedLink) → Contains (directed_links net) v → Contains (directed_links net) w → v.from ≡ w.from → v.out_port ≡ w.out_port → v ≡ w
-  same_by_port v w cv cw from port = by (paired (directed_links net) v w ok.ports (in_from (directed_links net) v cv) (in_from (directed_links net) w cw))
+  -- two from one location are the same, or differ in port and in far end
+  same_or_apart : (v w : DirectedLink) → Contains (directed_links net) v → Contains (directed_links net) w → v.from ≡ w.from → (v ≡ w) ⊎ ((v.out_port ≢ w.out_port) × (v.to ≢ w.to))
+  same_or_apart v w cv cw from = by (paired (directed_links net) v w ok.ports (in_from (directed_links net) v cv) (in_from (directed_links net) w cw))
     where
-      by : (v ≡ w) ⊎ (AreApart v w ⊎ AreApart w v) → v ≡ w
-      by (inl e) = e
-      by (inr (inl a)) = absurd ((a from).0 port)
-      by (inr (inr a)) = absurd ((a (sym from)).0 (sym port))
+      by : (v ≡ w) ⊎ (AreApart v w ⊎ AreApart w v) → (v ≡ w) ⊎ ((v.out_port ≢ w.out_port) × (v.to ≢ w.to))
+      by (inl e) = inl e
+      by (inr (inl a)) = inr (a from)
+      by (inr (inr a)) = inr ((λ e. (a (sym from)).0 (sym e)), (λ e. (a (sym from)).1 (sym e)))
+
+  pub same_by_port : (v w : DirectedLink) → Contains (directed_links net) v → Contains (directed_links net) w → v.from ≡ w.from → v.out_port ≡ w.out_port → v ≡ w
+  same_by_port v w cv cw from port = unless (same_or_apart v w cv cw from) (λ apart. apart.0 port)
 
   pub same_by_ends : (v w : DirectedLink) → Contains (directed_links net) v → Contains (directed_links net) w → v.from ≡ w.from → v.to ≡ w.to → v ≡ w
-  same_by_ends v w cv cw from to = by (paired (directed_links net) v w ok.ports (in_from (directed_links net) v cv) (in_from (directed_links net) w cw))
-    where
-      by : (v ≡ w) ⊎ (AreApart v w ⊎ AreApart w v) → v ≡ w
-      by (inl e) = e
-      by (inr (inl a)) = absurd ((a from).1 to)
-      by (inr (inr a)) = absurd ((a (sym from)).1 (sym to))
+  same_by_ends v w cv cw from to = unless (same_or_apart v w cv cw from) (λ apart. apart.1 to)
 
   -- the directed link by its port
   pub link_at-is : (w : DirectedLink) (loc port : ℕ) → Contains (directed_links net) w → w.from ≡ loc → w.out_port ≡ port → link_at net loc port ≡ Some w

@@ -1,7 +1,7 @@
 -- A run by given packet functions is a run of the machine.
 use Rattle.std.proofs.Common.{◌≡◌, ◌==◌, ℕ, Bool, true, false, List, [], ◌∷◌, Option, None, Some, MatchOption, slice_get, if◌then◌else◌, sym, ◌∙◌, ap, subst}
-use Rattle.merlin_model.specs.declared.network.Kind.{Kind}
-use Rattle.merlin_model.specs.declared.network.Kind.TheVariants.{Host, Switch, Middlebox}
+use Rattle.merlin_model.specs.declared.network.LocationKind.{LocationKind}
+use Rattle.merlin_model.specs.declared.network.LocationKind.TheVariants.{Host, Switch, Middlebox}
 use Rattle.merlin_model.specs.declared.network.FnDecl.{FnDecl}
 use Rattle.merlin_model.specs.declared.config.Action.{Action}
 use Rattle.merlin_model.specs.declared.config.Action.TheVariants.{SetVlan, StripVlan, Output, Enqueue}
@@ -64,7 +64,7 @@ module _ (net : Network) (config : Config) (behaviour : Behaviour) (keeps : Keep
   unchanged functions p q none h = subst (λ fs. MayMakeInTurn net behaviour fs p q) none h
 
   -- what the functions that are recorded make is what the location allows
-  allowed : (o : Option Kind) (f : Frame) (t : Option ℕ) (v : Visit) (w : DirectedLink) (q : Packet) → next_at net config f o ≡ Forwards w t v →
+  allowed : (o : Option LocationKind) (f : Frame) (t : Option ℕ) (v : Visit) (w : DirectedLink) (q : Packet) → next_at net config f o ≡ Forwards w t v →
       IsPacket f.packet → MayMakeInTurn net behaviour v.functions f.packet q → MayBecome o f.packet q
   allowed None f t v w q e ok h = absurd (Forwards-Stops (sym e))
   allowed (Some (Host address)) f t v w q e ok h = by (f.port == 0) e

@@ -12,7 +12,7 @@ use Rattle.merlin_model.specs.Words.{IsWalk}
 use Rattle.merlin_model.specs.Policies.{Policy, IsOnPath}
 use Rattle.merlin_model.specs.Rates.{IsGuaranteed}
 use Rattle.merlin_model.specs.Assignments.{AreAllEnds, IsAssignment}
-use Rattle.merlin_model.specs.Headline.{IsWalkOf}
+use Rattle.merlin_model.specs.Headline.{HasWalkOnPath}
 use Rattle.merlin_model.specs.Results.{Meanings, KeepsPromise}
 use Rattle.merlin_model.proofs.Members.{In, in_from, in_map}
 
@@ -25,7 +25,7 @@ beside R (a ∷ xs) (b ∷ ys) all x (inl same) = (0, b, ap Some (sym same), ref
 beside R (a ∷ xs) (b ∷ ys) all x (inr h) = let found = beside R xs ys all.1 x h in (suc found.0, found.1, found.2, found.3, found.4)
 
 pub has_walk : (net : Network) (policy : Policy) (ends : List Ends) (walks : List (List Symbol)) (i : ℕ) → AreAllEnds net policy ends → IsAssignment net policy ends walks →
-    IsGuaranteed policy i → (w : List Symbol) × IsWalkOf ends walks i w × IsOnPath policy i w
+    IsGuaranteed policy i → HasWalkOnPath policy ends walks i
 has_walk net policy ends walks i all assigned guaranteed =
     let named : (e : Ends) × In e ends × (i ≡ e.statement) = in_map (λ e. e.statement) ends i (in_from (map (λ e. e.statement) ends) i (all.all i guaranteed)) in
     let found = beside (λ e w. IsWalk net e.src e.dst w × IsOnPath policy e.statement w) ends walks assigned named.0 named.1 in

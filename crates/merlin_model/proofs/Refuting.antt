@@ -1,5 +1,5 @@
 -- A tree that refutes a box leaves no solution in it.
-use Rattle.std.proofs.Common.{◌≡◌, ◌≢◌, ℕ, zero, suc, ◌+◌, ◌≤◌, ◌<◌, ◌==◌, nat_eq, nat_lt, inr, Bool, true, false, ℤ, pos, negsuc, ◌+ℤ◌, ◌*ℤ◌, ◌≤ℤ◌, ◌<ℤ◌, List, [], ◌∷◌, ◌++◌, map, length, Option, None, Some, unwrap_or, get_or, length-set, refl, sym, ◌∙◌, ap, subst, arith, get_or-set_same, get_or-set_other}
+use Rattle.std.proofs.Common.{◌≡◌, ◌≢◌, ℕ, zero, suc, ◌+◌, ◌≤◌, ◌<◌, ◌==◌, nat_eq, nat_lt, inr, Bool, true, false, ℤ, pos, negsuc, ◌+ℤ◌, ◌*ℤ◌, ◌≤ℤ◌, ◌<ℤ◌, List, [], ◌∷◌, map, length, Option, None, Some, unwrap_or, get_or, length-set, refl, sym, ◌∙◌, ap, subst, arith, get_or-set_same, get_or-set_other}
 use Rattle.std.proofs.lemmas.Int.{ints}
 use Rattle.std.proofs.lemmas.List.{get_or_past}
 use Rattle.std.specs.List.{AllByRecursion, range_with_len}
@@ -9,6 +9,7 @@ use Rattle.merlin_model.specs.declared.certificate.Weight.{Weight}
 use Rattle.merlin_model.specs.declared.certificate.Tree.{Tree, Leaf, Split', Unclosed, end_of-Tree, more_of-Tree}
 use Rattle.merlin_model.specs.Programs.{Program, variables, no_row, total, coefficient_if, is_chosen, left_side, Compares, IsSolution}
 use Rattle.merlin_model.specs.Trees.{fixed_at, fix, IsInBox, row_of, coefficient_in, weighted_coefficient, weighted_right, least_addition, least_value, IsPositiveOnBounds, RefutesBox, Node, IsSoundNode, nodes_of, Refutes}
+use Rattle.merlin_model.proofs.Members.{all_left, all_right}
 use Rattle.merlin_model.proofs.Sums.{taken-zero, taken-add, taken-mul, total-add, total-mul, total-le, total-same, total-zero, total-outside, total-inside, coefficient_in-cons}
 
 -- What the variables of a row add at a point is its left side.
@@ -132,14 +133,6 @@ in_half box point variable inside v to e = by (nat_eq v variable) refl (nat_lt v
     by false s within w =
         let other : v ≢ variable = grind arith in
         inside v to (sym (get_or-set_other box variable v (Some (is_chosen point variable)) None other) ∙ e)
-
-all_left : {X : Type 0} (P : X → Type 0) (xs ys : List X) → AllByRecursion P (xs ++ ys) → AllByRecursion P xs
-all_left P [] ys h = tt
-all_left P (x ∷ xs) ys h = (h.0, all_left P xs ys h.1)
-
-all_right : {X : Type 0} (P : X → Type 0) (xs ys : List X) → AllByRecursion P (xs ++ ys) → AllByRecursion P ys
-all_right P [] ys h = h
-all_right P (x ∷ xs) ys h = all_right P xs ys h.1
 
 abbrev IsSound : Program → List (Option Bool) × Node → Type 0
 IsSound program node = IsSoundNode program node.0 node.1

@@ -1,7 +1,7 @@
 -- How runs are followed, step by step.
 use Rattle.std.proofs.Common.{◌≡◌, ◌≢◌, ℕ, zero, suc, ◌≤◌, List, [], ◌∷◌, length, Option, None, Some, option_map, unwrap_or, refl, sym, ◌∙◌, ap, subst, arith}
-use Rattle.merlin_model.specs.declared.network.Kind.{Kind}
-use Rattle.merlin_model.specs.declared.network.Kind.TheVariants.{Host, Switch, Middlebox}
+use Rattle.merlin_model.specs.declared.network.LocationKind.{LocationKind}
+use Rattle.merlin_model.specs.declared.network.LocationKind.TheVariants.{Host, Switch, Middlebox}
 use Rattle.merlin_model.specs.declared.config.Config.{Config}
 use Rattle.merlin_model.specs.Packets.{Packet}
 use Rattle.merlin_model.specs.Networks.{Network, kind_of, DirectedLink}
@@ -99,7 +99,7 @@ module _ (net : Network) (config : Config) where
       RunsWithin net config n f P → RunsWithin net config n f Q
   within-more n f P Q h r = record { ends = r.ends; outcome = λ visits end run. h visits end (r.outcome visits end run) }
 
-same_packet : (o : Option Kind) (p q : Packet) → o ≢ Some Middlebox → MayBecome o p q → q ≡ p
+same_packet : (o : Option LocationKind) (p q : Packet) → o ≢ Some Middlebox → MayBecome o p q → q ≡ p
 same_packet None p q n h = h
 same_packet (Some (Host address)) p q n h = h
 same_packet (Some Switch) p q n h = h

@@ -10,6 +10,10 @@ use Rattle.merlin_model.specs.Machine.{Frame, Visit, End, Forwards, Stops, next}
 abbrev pub Behaviour : Type 1
 Behaviour = FnDecl → Packet → Packet → Type 0
 
+-- each function makes the one packet that is answered for it
+abbrev pub answers_of : (FnDecl → Packet → Packet) → Behaviour
+answers_of answer decl p q = q ≡ answer decl p
+
 -- each function makes a packet of a packet, and keeps eth.dst
 abbrev pub KeepsDestination : Behaviour → Type 0
 KeepsDestination behaviour =

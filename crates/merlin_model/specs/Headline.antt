@@ -10,7 +10,7 @@ use Rattle.merlin_model.specs.declared.config.Config.{Config}
 use Rattle.merlin_model.specs.Packets.{Packet, IsPacket}
 use Rattle.merlin_model.specs.Networks.{Network, IsHost, IsProper, DirectedLink, directed_links}
 use Rattle.merlin_model.specs.Words.{Stop, visits, crossings}
-use Rattle.merlin_model.specs.Policies.{Policy, match_of, IsAllowed}
+use Rattle.merlin_model.specs.Policies.{Policy, match_of, IsAllowed, IsOnPath}
 use Rattle.merlin_model.specs.Rates.{max_of, min_of, IsGuaranteed, IsLiveSource, AreLiveSources, IsShareAt}
 use Rattle.merlin_model.specs.Assignments.{load, IsFeasible}
 use Rattle.merlin_model.specs.Machine.{start, Visit, End, Delivered, Dropped, EachRun}
@@ -36,6 +36,11 @@ abbrev pub IsWalkOf : List Ends → List (List Symbol) → ℕ → List Symbol �
 IsWalkOf ends walks i w =
     (k : ℕ) × (e : Ends) × (slice_get ends k ≡ Some e) × (e.statement ≡ i)
     × (slice_get walks k ≡ Some w)
+
+-- a walk is written for the guaranteed statement i, and it is on the path of the statement
+abbrev pub HasWalkOnPath : Policy → List Ends → List (List Symbol) → ℕ → Type 0
+HasWalkOnPath policy ends walks i =
+    (w : List Symbol) × IsWalkOf ends walks i w × IsOnPath policy i w
 
 -- t is the first switch of host s
 abbrev pub IsFirstSwitch : Network → ℕ → ℕ → Type 0

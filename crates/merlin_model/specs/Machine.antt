@@ -1,8 +1,8 @@
 -- The machine: what a configuration does with a packet, hop by hop.
 use Rattle.std.specs.Prelude.{ℕ, ◌≡◌, ◌≤◌, ◌<◌, ◌==◌, Bool, true, false, not, ◌&&◌, List, [], ◌∷◌, map, length, filter, filter_map, find, take_while, Option, None, Some, is_some, slice_get, if◌then◌else◌}
 use Rattle.std.specs.List.{last_or}
-use Rattle.merlin_model.specs.declared.network.Kind.{Kind}
-use Rattle.merlin_model.specs.declared.network.Kind.TheVariants.{Host, Switch, Middlebox}
+use Rattle.merlin_model.specs.declared.network.LocationKind.{LocationKind}
+use Rattle.merlin_model.specs.declared.network.LocationKind.TheVariants.{Host, Switch, Middlebox}
 use Rattle.merlin_model.specs.declared.config.Out.{Out}
 use Rattle.merlin_model.specs.declared.config.Out.TheVariants.{InPort, Port}
 use Rattle.merlin_model.specs.declared.config.Action.{Action}
@@ -205,7 +205,7 @@ abbrev pub arrived_at : ℕ → Option ℕ → Packet → Next
 arrived_at loc None p = Stops (Delivered loc p)
 arrived_at loc (Some tag) p = Stops (Dropped loc)
 
-abbrev pub next_at : Network → Config → Frame → Option Kind → Next
+abbrev pub next_at : Network → Config → Frame → Option LocationKind → Next
 next_at net config f None = Stops (Dropped f.loc)
 next_at net config f (Some (Host address)) = if f.port == 0 then from_host net config.hosts f else arrived_at f.loc f.tag f.packet
 next_at net config f (Some Switch) = at_switch net f (acting_rule config.rules f)
@@ -217,7 +217,7 @@ next net config f = next_at net config f (kind_of net f.loc)
 
 -- The packet after a step. Functions may change it, and of what they do only this is known: eth.dst
 -- stays.
-abbrev pub MayBecome : Option Kind → Packet → Packet → Type 0
+abbrev pub MayBecome : Option LocationKind → Packet → Packet → Type 0
 MayBecome None p q = q ≡ p
 MayBecome (Some (Host address)) p q = q ≡ p
 MayBecome (Some Switch) p q = q ≡ p

@@ -2,8 +2,8 @@
 use Rattle.std.specs.Prelude.{ℕ, ◌≡◌, ◌≢◌, ◌<◌, ◌==◌, ◌⊎◌, ⊤, List, [], ◌∷◌, ◌++◌, length, map, filter, Contains, Option, None, Some, IsSome, slice_get, option_map}
 use Rattle.std.specs.List.{AllByRecursion}
 use Rattle.merlin_model.specs.declared.network.HostAddress.{HostAddress}
-use Rattle.merlin_model.specs.declared.network.Kind.{Kind}
-use Rattle.merlin_model.specs.declared.network.Kind.TheVariants.{Host, Switch, Middlebox}
+use Rattle.merlin_model.specs.declared.network.LocationKind.{LocationKind}
+use Rattle.merlin_model.specs.declared.network.LocationKind.TheVariants.{Host, Switch, Middlebox}
 use Rattle.merlin_model.specs.declared.network.Location.{Location}
 use Rattle.merlin_model.specs.declared.network.Link.{Link}
 pub use Rattle.merlin_model.specs.declared.network.DirectedLink.{DirectedLink}
@@ -17,11 +17,11 @@ pub record Network : Type 0 where
   pub functions : List FnDecl
 
 -- what stands there, if it is a location
-abbrev pub kind_of : Network → ℕ → Option Kind
+abbrev pub kind_of : Network → ℕ → Option LocationKind
 kind_of net loc = option_map (λ l. l.kind) (slice_get net.locations loc)
 
 -- the addresses of the host there, if there is a host
-abbrev pub address_at : Option Kind → Option HostAddress
+abbrev pub address_at : Option LocationKind → Option HostAddress
 address_at None = None
 address_at (Some (Host address)) = Some address
 address_at (Some Switch) = None

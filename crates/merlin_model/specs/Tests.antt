@@ -1,6 +1,6 @@
 -- Tests that compute what some of the facts say.
 use Rattle.std.specs.Prelude.{ℕ, zero, suc, ◌≢◌, ◌==◌, Bool, false, not, ◌&&◌, List, [], ◌∷◌, Option, None, Some, option_map}
-use Rattle.merlin_model.specs.declared.network.Kind.TheVariants.{Middlebox}
+use Rattle.merlin_model.specs.declared.network.LocationKind.TheVariants.{Middlebox}
 use Rattle.merlin_model.specs.declared.config.Config.{Config}
 use Rattle.merlin_model.specs.Networks.{DirectedLink}
 use Rattle.merlin_model.specs.Machine.{Frame, Visit, End, Next, Forwards, Stops, next}

@@ -77,6 +77,20 @@ pub struct Match {
     pub tp_dst: Option<u16>,
 }
 
+/// The match that names nothing.
+pub const ANY: Match = Match {
+    in_port: None,
+    dl_src: None,
+    dl_dst: None,
+    dl_vlan: None,
+    dl_type: false,
+    nw_proto: None,
+    nw_src: None,
+    nw_dst: None,
+    tp_src: None,
+    tp_dst: None,
+};
+
 /// A rule of a switch.
 #[derive(Drop)]
 pub struct Rule {

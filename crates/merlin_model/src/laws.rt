@@ -6,15 +6,15 @@ ghost use Rattle.std.specs.List.{range_with_len};
 ghost use Rattle.merlin_model.specs.Packets.{Packet, IsPacket, ComesBefore, IsLeastPacket};
 ghost use Rattle.merlin_model.specs.Packets.{source_of, destination_of};
 ghost use Rattle.merlin_model.specs.declared.network.HostAddress.{HostAddress};
-ghost use Rattle.merlin_model.specs.Functions.{KeepsDestination, RunsBy};
+ghost use Rattle.merlin_model.specs.Functions.{answers_of, KeepsDestination, RunsBy};
 ghost use Rattle.merlin_model.specs.declared.network.FnDecl.{FnDecl};
 ghost use Rattle.merlin_model.specs.Networks.{Network, IsNetwork, IsHost, IsProper, DirectedLink};
 ghost use Rattle.merlin_model.specs.Networks.{directed_links, back_of, address_of};
 ghost use Rattle.merlin_model.specs.Tests.{is_proper};
-ghost use Rattle.merlin_model.specs.Policies.{Policy, Statement, AreDisjoint, IsOnPath, match_of};
+ghost use Rattle.merlin_model.specs.Policies.{Policy, Statement, AreDisjoint, match_of};
 ghost use Rattle.merlin_model.specs.declared.policy.Ends.{Ends};
 ghost use Rattle.merlin_model.specs.Assignments.{AreAllEnds, IsAssignment};
-ghost use Rattle.merlin_model.specs.Headline.{IsWalkOf};
+ghost use Rattle.merlin_model.specs.Headline.{HasWalkOnPath};
 ghost use Rattle.merlin_model.specs.Predicates.{holds};
 ghost use Rattle.merlin_model.specs.Rates.{share, IsShareAt, IsGuaranteed};
 ghost use Rattle.merlin_model.specs.Programs.{Program, IsSolution};
@@ -141,8 +141,8 @@ pub fn one_least_packet()
 pub fn run_by_functions_is_a_run()
     ensures { (net : Network) (config : Config) (answer : FnDecl → Packet → Packet)
         (f : Frame) (visits : List Visit) (end : End) →
-        KeepsDestination (λ decl p q. q ≡ answer decl p) → IsPacket f.packet →
-        RunsBy net config (λ decl p q. q ≡ answer decl p) f visits end → Runs net config f visits end }
+        KeepsDestination (answers_of answer) → IsPacket f.packet →
+        RunsBy net config (answers_of answer) f visits end → Runs net config f visits end }
 {}
 
 /// A packet is proper between two hosts exactly where they differ and it bears their addresses.
@@ -154,9 +154,10 @@ pub fn proper_is_between()
 
 /// Each guaranteed statement has a walk in an assignment, and the walk is on its path. So where there are no ends, nothing is guaranteed.
 pub fn guarantees_have_walks()
-    ensures { (net : Network) (policy : Policy) (ends : List Ends) (walks : List (List Symbol)) (i : ℕ) →
-        AreAllEnds net policy ends → IsAssignment net policy ends walks → IsGuaranteed policy i →
-        (w : List Symbol) × IsWalkOf ends walks i w × IsOnPath policy i w }
+    ensures { (net : Network) (policy : Policy) (ends : List Ends)
+        (walks : List (List Symbol)) (i : ℕ) → AreAllEnds net policy ends →
+        IsAssignment net policy ends walks → IsGuaranteed policy i →
+        HasWalkOnPath policy ends walks i }
 {}
 
 /// The box of a tree says nothing of how many nodes the tree has.

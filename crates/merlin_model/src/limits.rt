@@ -1,5 +1,8 @@
 //! Limits that definitions and code share.
 
+/// How great a rate may be, in kbit/s: of a limit, of a term of a formula, and the capacity of a link.
+pub const MAX_RATE: u64 = 1_000_000_000;
+
 /// How many variables a program may have.
 pub const MAX_VARIABLES: usize = 32_768;
 

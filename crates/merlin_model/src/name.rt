@@ -1,4 +1,4 @@
-// Texts that are kept.
+//! Texts that are kept.
 ghost use Rattle.std.specs.Prelude.{◌≡◌, ◌≤◌, List, ℕ, IfOk, length, take};
 
 use sqlite_items::{Boxed, Items};

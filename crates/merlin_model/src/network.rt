@@ -13,7 +13,7 @@ pub struct HostAddress {
 
 /// What stands at a location, with the addresses of a host.
 #[derive(Clone, Copy)]
-pub enum Kind {
+pub enum LocationKind {
     Host(HostAddress),
     Switch,
     Middlebox,
@@ -31,7 +31,7 @@ pub enum Place {
 #[derive(Drop)]
 pub struct Location {
     pub name: Name,
-    pub kind: Kind,
+    pub kind: LocationKind,
 }
 
 /// A link between two locations by number, each with its port. `capacity` is what it carries from `a` to `b`, and `back` from `b` to `a`,

@@ -11,7 +11,7 @@ use Rattle.merlin_text.specs.declared.token.Kind.{Kind}
 use Rattle.merlin_text.specs.declared.token.Token.{Token}
 use Rattle.merlin_text.specs.declared.token.TokenFault.{TokenFault}
 use Rattle.merlin_text.specs.declared.token.TokenFault.TheVariants as faults
-use Rattle.merlin_text.specs.Tokens.{Piece, text_of, ArePieces, token_at, tokens_of, IsCut, AreTokens, BeginsNoPiece, IsPiece, StopsAt, IsFault, AreSlices, IsLexeme}
+use Rattle.merlin_text.specs.Tokens.{Piece, text_of, ArePieces, token_at, tokens_of, IsCut, AreTokens, BeginsNoPiece, IsPiece, StopsAt, IsTokenFault, AreSlices, IsLexeme}
 use Rattle.merlin_text.proofs.OnePiece.{one_piece, piece_some}
 use Rattle.merlin_text.proofs.Fronts.{none_at_end}
 
@@ -110,7 +110,7 @@ no_stop text ts at byte c p =
     let rests : [] ≡ byte ∷ p.rest = (cut_once text [] (byte ∷ p.rest) ts p.tokens c p.cut none_at_end p.none).1 in
     let clash : ⊥ = cc in clash
 
-pub one_fault : (text : List ℕ) (f g : TokenFault) → IsFault text f → IsFault text g → (f ≡ faults.OutOfMemory) ⊎ (g ≡ faults.OutOfMemory) ⊎ (f ≡ g)
+pub one_fault : (text : List ℕ) (f g : TokenFault) → IsTokenFault text f → IsTokenFault text g → (f ≡ faults.OutOfMemory) ⊎ (g ≡ faults.OutOfMemory) ⊎ (f ≡ g)
 one_fault text faults.OutOfMemory g p q = inl refl
 one_fault text f faults.OutOfMemory p q = inr (inl refl)
 one_fault text (faults.BadByte at) (faults.BadByte a) (byte, p, other) (b, q, other') = inr (inr (ap faults.BadByte (stops_once text at a byte b p q).0))
@@ -118,7 +118,7 @@ one_fault text (faults.BadNumber at) (faults.BadNumber a) (byte, p, is) (b, q, i
 one_fault text (faults.BadByte at) (faults.BadNumber a) (byte, p, other) (b, q, is) = absurd (other (subst IsDigit (sym (stops_once text at a byte b p q).1) is))
 one_fault text (faults.BadNumber at) (faults.BadByte a) (byte, p, is) (b, q, other) = absurd (other (subst IsDigit (stops_once text at a byte b p q).1 is))
 
-pub tokens_or_fault : (text : List ℕ) (ts : List Token) (f : TokenFault) → AreTokens text ts → IsFault text f → f ≡ faults.OutOfMemory
+pub tokens_or_fault : (text : List ℕ) (ts : List Token) (f : TokenFault) → AreTokens text ts → IsTokenFault text f → f ≡ faults.OutOfMemory
 tokens_or_fault text ts faults.OutOfMemory c p = refl
 tokens_or_fault text ts (faults.BadByte at) c (byte, p, other) = absurd (no_stop text ts at byte c p)
 tokens_or_fault text ts (faults.BadNumber at) c (byte, p, is) = absurd (no_stop text ts at byte c p)

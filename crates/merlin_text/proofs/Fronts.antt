@@ -10,18 +10,18 @@ use Rattle.merlin_text.specs.declared.token.Kind.{Kind}
 use Rattle.merlin_text.specs.declared.token.Kind.TheVariants as kinds
 use Rattle.merlin_text.specs.declared.token.Sign.{Sign}
 use Rattle.merlin_text.specs.declared.token.Sign.TheVariants as signs
-use Rattle.merlin_text.specs.Tokens.{IsBlank, BeginsWith, EndsBefore, IsRun, BeginsNoMac, BeginsNoPiece, IsLexeme, Sort, gap, sign, sort_of, GoesTo, GivesWay, IsPiece, written}
+use Rattle.merlin_text.specs.Tokens.{IsBlank, BeginsWith, EndsBefore, IsRun, BeginsNoMac, BeginsNoPiece, IsLexeme, Sort, gap, sign, sort_of, IsExtent, GivesWay, IsPiece, written}
 use Rattle.merlin_text.specs.Fronts.{IsFront}
 use Rattle.merlin_text.proofs.Runs.{one_run, begins_with, front_run, run_some, weaker}
 use Rattle.merlin_text.proofs.OnePiece.{Starts, IsOther, sort_at, piece_some}
 
-pub front : (f : Sort) (text : List ℕ) (n : ℕ) (kind : Option Kind) → sort_of kind ≡ f → GivesWay f text → 0 < n → n ≤ length text → GoesTo f (take n text) (drop n text) → IsLexeme kind (take n text) → IsFront text n kind
+pub front : (f : Sort) (text : List ℕ) (n : ℕ) (kind : Option Kind) → sort_of kind ≡ f → GivesWay f text → 0 < n → n ≤ length text → IsExtent f (take n text) (drop n text) → IsLexeme kind (take n text) → IsFront text n kind
 front f text n kind same way some within goes lexeme = record {
   some = some;
   within = within;
   piece = record {
     lexeme = lexeme;
-    goes_to = subst (λ g. GoesTo g (take n text) (drop n text)) (sym same) goes;
+    goes_to = subst (λ g. IsExtent g (take n text) (drop n text)) (sym same) goes;
     mac_first = subst (λ g. GivesWay g (take n text ++ drop n text)) (sym same) (subst (GivesWay f) (sym (take-append-drop n text)) way);
   };
 }
@@ -36,7 +36,7 @@ mac_front text piece rest n e is =
     )
 
 -- A run that is a lexeme is a piece.
-pub run_front : (f : Sort) (Begins Goes : ℕ → Type 0) (text : List ℕ) (n : ℕ) (kind : Option Kind) → ((v r : List ℕ) → IsRun Begins Goes v r → GoesTo f v r) → ((c : ℕ) → Begins c → Goes c)
+pub run_front : (f : Sort) (Begins Goes : ℕ → Type 0) (text : List ℕ) (n : ℕ) (kind : Option Kind) → ((v r : List ℕ) → IsRun Begins Goes v r → IsExtent f v r) → ((c : ℕ) → Begins c → Goes c)
     → GivesWay f text → 0 < length text → Begins (get_or text 0 0) → n ≤ length text → All Goes (take n text) → EndsBefore Goes (drop n text)
     → sort_of kind ≡ f → IsLexeme kind (take n text) → IsFront text n kind
 run_front f Begins Goes text n kind goes more way some first within each longest same lexeme =
@@ -48,14 +48,14 @@ none_of f text other none None same lexeme = other (sym same)
 none_of f text other none (Some kind) same lexeme = none kind same lexeme
 
 -- Where a run is no lexeme, no piece begins.
-pub run_none : (f : Sort) (Begins Goes : ℕ → Type 0) (text : List ℕ) (n : ℕ) → f ≢ gap → ((v r : List ℕ) → GoesTo f v r → IsRun Begins Goes v r) → ((c : ℕ) → Begins c → Goes c) → ((c : ℕ) → Begins c → Starts f c)
+pub run_none : (f : Sort) (Begins Goes : ℕ → Type 0) (text : List ℕ) (n : ℕ) → f ≢ gap → ((v r : List ℕ) → IsExtent f v r → IsRun Begins Goes v r) → ((c : ℕ) → Begins c → Goes c) → ((c : ℕ) → Begins c → Starts f c)
     → BeginsNoMac text → 0 < length text → Begins (get_or text 0 0) → All Goes (take n text) → EndsBefore Goes (drop n text)
     → ((kind : Kind) → sort_of (Some kind) ≡ f → IsLexeme (Some kind) (take n text) → ⊥) → BeginsNoPiece text
 run_none f Begins Goes text n other goes more starts no_mac some first each longest none kind piece rest split p =
     let begins = begins_with Begins text some first in
     let same = sort_at f text no_mac (weaker Begins (Starts f) text starts begins) kind piece rest split p in
     let run = front_run Begins Goes text n more begins each longest in
-    let texts : piece ≡ take n text = one_run Begins Goes piece rest (take n text) (drop n text) (goes piece rest (subst (λ g. GoesTo g piece rest) same p.goes_to)) run (sym split ∙ sym (take-append-drop n text)) in
+    let texts : piece ≡ take n text = one_run Begins Goes piece rest (take n text) (drop n text) (goes piece rest (subst (λ g. IsExtent g piece rest) same p.goes_to)) run (sym split ∙ sym (take-append-drop n text)) in
     none_of f (take n text) other none kind same (subst (IsLexeme kind) texts p.lexeme)
 
 sign_none : (text : List ℕ) → ((s : Sign) (rest : List ℕ) → text ≢ written s ++ rest) → (kind : Option Kind) (piece more : List ℕ) → sort_of kind ≡ sign → text ≡ piece ++ more → IsPiece kind piece more → ⊥

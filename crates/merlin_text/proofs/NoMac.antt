@@ -1,8 +1,8 @@
 -- Where no Mac begins: its first two bytes are digits or letters, and the third is `:`.
-use Rattle.std.proofs.Common.{◌≡◌, ◌≢◌, ◌⊎◌, inl, inr, ◌+◌, ◌<◌, ◌≤◌, ◌++◌, ℕ, List, [], ◌∷◌, length, refl, arith, sym, ◌∙◌, ap, subst, append_assoc}
+use Rattle.std.proofs.Common.{◌≡◌, ◌≢◌, ◌⊎◌, inl, inr, ◌<◌, ◌++◌, ℕ, List, [], ◌∷◌, length, refl, arith, ◌∙◌, ap, subst}
 use Rattle.std.specs.List.{AllByRecursion}
-use Rattle.merlin_base.specs.Lexemes.{IsNameByte, IsHexDigit, IsHexPair, IsThen, IsMac}
-use Rattle.merlin_text.specs.Tokens.{EndsBefore, IsMacAt, BeginsNoMac}
+use Rattle.merlin_base.specs.Lexemes.{IsNameByte, IsHexDigit, IsHexPair, IsMac}
+use Rattle.merlin_text.specs.Tokens.{EndsBefore, BeginsNoMac}
 
 hex_is_name : (c value : ℕ) → IsHexDigit c value → IsNameByte c
 hex_is_name c value (inl digit) = inr (omega (arith, digit), omega (arith, digit))

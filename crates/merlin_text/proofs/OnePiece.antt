@@ -11,7 +11,7 @@ use Rattle.merlin_text.specs.declared.token.Word.{Word}
 use Rattle.merlin_text.specs.declared.token.Word.TheVariants as words
 use Rattle.merlin_text.specs.declared.token.Sign.{Sign}
 use Rattle.merlin_text.specs.declared.token.Sign.TheVariants as signs
-use Rattle.merlin_text.specs.Tokens.{IsBlank, IsRunByte, BeginsWith, BeginsNoMac, IsLexeme, Sort, gap, verbal, numeral, mac, sign, sort_of, GoesTo, IsPiece, spelling, written}
+use Rattle.merlin_text.specs.Tokens.{IsBlank, IsRunByte, BeginsWith, BeginsNoMac, IsLexeme, Sort, gap, verbal, numeral, mac, sign, sort_of, IsExtent, IsPiece, spelling, written}
 use Rattle.merlin_text.proofs.Runs.{one_run, heads, weaker, begins_append, begins_some}
 use Rattle.merlin_text.proofs.Signs.{one_sign}
 use Rattle.merlin_text.proofs.Prefixes.{IsPrefix-one, number_no_prefix, rate_no_prefix, ip_no_prefix}
@@ -204,7 +204,7 @@ no_comment : (c : ℕ) → IsBlank c → c ≡ 35 → ⊥
 no_comment c blank e = grind arith
 
 -- Gaps and runs go as far as they go.
-one_text : (f : Sort) (v r w s : List ℕ) → f ≢ mac → f ≢ sign → GoesTo f v r → GoesTo f w s → v ++ r ≡ w ++ s → v ≡ w
+one_text : (f : Sort) (v r w s : List ℕ) → f ≢ mac → f ≢ sign → IsExtent f v r → IsExtent f w s → v ++ r ≡ w ++ s → v ≡ w
 one_text gap v r w s m n (inl (c, a, p)) (inl (d, b, q)) e = same_length v r w s (rw (a, b)) e
 one_text gap v r w s m n (inl (c, a, p)) (inr q) e =
     let both = heads IsBlank (λ x. x ≡ 35) (v ++ r) w s (begins_append IsBlank v r (subst (BeginsWith IsBlank) (sym a) p)) q.first e in
@@ -232,7 +232,7 @@ one_piece (Some (kinds.Sign a)) k v r w s p q e =
     cc
 one_piece j k v r w s p q e =
     let same : sort_of k ≡ sort_of j = sort_at (sort_of j) (v ++ r) p.mac_first (begins_append (Starts (sort_of j)) v r (start_of j v r (λ m. cc) p)) k w s e q in
-    let texts : v ≡ w = one_text (sort_of j) v r w s (λ m. cc) (λ m. cc) p.goes_to (subst (λ f. GoesTo f w s) same q.goes_to) e in
+    let texts : v ≡ w = one_text (sort_of j) v r w s (λ m. cc) (λ m. cc) p.goes_to (subst (λ f. IsExtent f w s) same q.goes_to) e in
     (texts, one_kind j k w (sym same) (subst (IsLexeme j) texts p.lexeme) q.lexeme)
 
 pub piece_some : (kind : Option Kind) (piece rest : List ℕ) → IsPiece kind piece rest → 0 < length piece

@@ -6,7 +6,7 @@ use Rattle.std.proofs.lemmas.List.{take-append-drop, drop-drop, length-take-le, 
 use Rattle.std.proofs.Math.Seq.{drop-append_seam}
 use Rattle.merlin_text.specs.declared.token.Kind.{Kind}
 use Rattle.merlin_text.specs.declared.token.Token.{Token}
-use Rattle.merlin_text.specs.Tokens.{Piece, text_of, ArePieces, token_at, tokens_of, IsCut, AreTokens, BeginsNoPiece, IsPiece, StopsAt}
+use Rattle.merlin_text.specs.Tokens.{Piece, text_of, ArePieces, token_at, tokens_of, IsCut, AreTokens, BeginsNoPiece, StopsAt}
 use Rattle.merlin_text.specs.Rest.{IsCutFrom, AreRest, Rest, tokens_are_a_set}
 use Rattle.merlin_text.specs.Fronts.{IsFront}
 use Rattle.merlin_text.proofs.OnePiece.{one_piece, piece_some}

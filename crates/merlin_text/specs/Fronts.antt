@@ -7,11 +7,11 @@ use Rattle.merlin_text.specs.declared.token.Kind.{Kind}
 use Rattle.merlin_text.specs.Tokens.{IsPiece, IsRunByte}
 
 -- the bytes of each sort of run
-abbrev pub GoesOn : Run → ℕ → Type 0
-GoesOn runs.Comment c = c ≢ 10
-GoesOn runs.Name c = IsNameByte c
-GoesOn runs.Digits c = IsRunByte c
-GoesOn runs.Mac c = IsNameByte c ⊎ (c ≡ 58)
+abbrev pub IsByteOf : Run → ℕ → Type 0
+IsByteOf runs.Comment c = c ≢ 10
+IsByteOf runs.Name c = IsNameByte c
+IsByteOf runs.Digits c = IsRunByte c
+IsByteOf runs.Mac c = IsNameByte c ⊎ (c ≡ 58)
 
 -- The first bytes of the text, so many, are a piece of this kind.
 pub record IsFront (text : List ℕ) (length' : ℕ) (kind : Option Kind) : Type 0 where

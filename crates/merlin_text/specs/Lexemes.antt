@@ -1,9 +1,12 @@
 -- Lexemes as grammars have them: a name with its text and the byte at which it starts, all others by their kind.
 use Rattle.std.specs.Prelude.{if◌then◌else◌, ℕ, ◌+◌, ◌≤◌, ⊤, Option, None, Some, List, [], ◌∷◌, ◌++◌, map, length, slice_range, nat_le, ◌&&◌}
 use Rattle.merlin_base.specs.Lexemes.{IsName, IsDecimal, IsRate, IsMac, IsIp}
+use Rattle.merlin_model.specs.declared.policy.Bound.{Bound}
+use Rattle.merlin_model.specs.declared.policy.Bound.TheVariants.{Max, Min}
 use Rattle.merlin_text.specs.declared.token.Kind.{Kind}
 use Rattle.merlin_text.specs.declared.token.Kind.TheVariants as kinds
 use Rattle.merlin_text.specs.declared.token.Word.{Word}
+use Rattle.merlin_text.specs.declared.token.Word.TheVariants as words
 use Rattle.merlin_text.specs.declared.token.Sign.{Sign}
 use Rattle.merlin_text.specs.declared.token.Token.{Token}
 use Rattle.merlin_text.specs.Tokens.{IsPrefix, Piece}
@@ -65,6 +68,11 @@ lexeme_at (Some (kinds.Sign s)) text place = sign s ∷ []
 abbrev pub lexemes_in : ℕ → List Piece → List Lexeme
 lexemes_in place [] = []
 lexemes_in place (p ∷ ps) = lexeme_at p.0 p.1 place ++ lexemes_in (place + length p.1) ps
+
+-- the word for a bound
+abbrev pub bound_word : Bound → Word
+bound_word Max = words.Max
+bound_word Min = words.Min
 
 -- phrases, one after another, with a lexeme between two of them
 abbrev pub separated : {A : Type 0} → Lexeme → (A → List Lexeme) → List A → List Lexeme

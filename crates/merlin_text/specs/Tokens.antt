@@ -127,12 +127,12 @@ sort_of (Some (kinds.Prefix _ _)) = numeral
 sort_of (Some (kinds.Sign _)) = sign
 
 -- how far a piece goes: a blank is one byte, `:` stands only where `:=` doesn't
-abbrev pub GoesTo : Sort → List ℕ → List ℕ → Type 0
-GoesTo gap text rest = ((c : ℕ) × (text ≡ c ∷ []) × IsBlank c) ⊎ IsComment text rest
-GoesTo verbal text rest = IsNameRun text rest
-GoesTo numeral text rest = IsDigitRun text rest
-GoesTo mac text rest = EndsBefore (λ c. IsNameByte c ⊎ (c ≡ 58)) rest
-GoesTo sign text rest = text ≡ codes ":" → EndsBefore (λ c. c ≡ 61) rest
+abbrev pub IsExtent : Sort → List ℕ → List ℕ → Type 0
+IsExtent gap text rest = ((c : ℕ) × (text ≡ c ∷ []) × IsBlank c) ⊎ IsComment text rest
+IsExtent verbal text rest = IsNameRun text rest
+IsExtent numeral text rest = IsDigitRun text rest
+IsExtent mac text rest = EndsBefore (λ c. IsNameByte c ⊎ (c ≡ 58)) rest
+IsExtent sign text rest = text ≡ codes ":" → EndsBefore (λ c. c ≡ 61) rest
 
 -- A Mac is tried first: where one begins, nothing else does.
 abbrev pub GivesWay : Sort → List ℕ → Type 0
@@ -142,7 +142,7 @@ GivesWay sort text = BeginsNoMac text
 -- a piece of this kind, and what follows it
 pub record IsPiece (kind : Option Kind) (text rest : List ℕ) : Type 0 where
   pub lexeme : IsLexeme kind text
-  pub goes_to : GoesTo (sort_of kind) text rest
+  pub goes_to : IsExtent (sort_of kind) text rest
   pub mac_first : GivesWay (sort_of kind) (text ++ rest)
 
 -- a piece, by its kind and its text
@@ -191,10 +191,10 @@ pub record StopsAt (text : List ℕ) (at byte : ℕ) : Type 0 where
   pub none : BeginsNoPiece (byte ∷ rest)
 
 -- the first fault of a text: no piece begins with this digit, or with this other byte
-abbrev pub IsFault : List ℕ → TokenFault → Type 0
-IsFault text (faults.BadByte at) = (byte : ℕ) × StopsAt text at byte × (IsDigit byte → ⊥)
-IsFault text (faults.BadNumber at) = (byte : ℕ) × StopsAt text at byte × IsDigit byte
-IsFault text faults.OutOfMemory = ⊤
+abbrev pub IsTokenFault : List ℕ → TokenFault → Type 0
+IsTokenFault text (faults.BadByte at) = (byte : ℕ) × StopsAt text at byte × (IsDigit byte → ⊥)
+IsTokenFault text (faults.BadNumber at) = (byte : ℕ) × StopsAt text at byte × IsDigit byte
+IsTokenFault text faults.OutOfMemory = ⊤
 
 -- Each token's text is its slice, and the slices follow one another.
 abbrev pub AreSlices : List ℕ → ℕ → List Token → Type 0

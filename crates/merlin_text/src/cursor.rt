@@ -2,7 +2,7 @@
 ghost use Rattle.std.specs.Prelude.{◌≡◌, ◌≢◌, ℕ, List, [], ◌∷◌, length, IfOk, IfErr, IfSome, IfNone};
 ghost use Rattle.merlin_text.specs.declared.token.Token.{Token};
 ghost use Rattle.merlin_text.specs.declared.token.TokenFault.TheVariants as faults;
-ghost use Rattle.merlin_text.specs.Tokens.{AreTokens, IsFault, StopsAt, token_at};
+ghost use Rattle.merlin_text.specs.Tokens.{AreTokens, IsTokenFault, StopsAt, token_at};
 ghost use Rattle.merlin_text.specs.Rest.{Rest, Rest-prop};
 
 use crate::pieces::front_of;
@@ -68,7 +68,7 @@ impl<'a> Cursor<'a> {
 
 // The fault where no piece begins with the byte at this place.
 fn fault_of(byte: u8, at: usize) -> TokenFault
-    ensures fault { (text : List ℕ) → StopsAt text at byte → IsFault text result }
+    ensures fault { (text : List ℕ) → StopsAt text at byte → IsTokenFault text result }
     ensures given { result ≢ faults.OutOfMemory }
 {
     if byte.is_ascii_digit() {
@@ -92,7 +92,7 @@ fn count_of(kind: Option<Kind>) -> usize
 /// It takes no memory.
 pub fn scan(text: &[u8]) -> Result<Cursor<'_>, TokenFault>
     ensures tokens { IfOk result (AreTokens text.now) }
-    ensures fault { IfErr result (IsFault text.now) }
+    ensures fault { IfErr result (IsTokenFault text.now) }
     ensures given { IfErr result (λ fault. fault ≢ faults.OutOfMemory) }
 {
     let mut at = 0;

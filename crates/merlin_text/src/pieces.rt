@@ -6,7 +6,7 @@ ghost use Rattle.merlin_text.specs.declared.token.Kind.{Kind};
 ghost use Rattle.merlin_text.specs.declared.token.Kind.TheVariants as kinds;
 ghost use Rattle.merlin_text.specs.declared.token.Word.{Word};
 ghost use Rattle.merlin_text.specs.declared.token.Sign.{Sign};
-ghost use Rattle.merlin_text.specs.Fronts.{GoesOn, IsFront};
+ghost use Rattle.merlin_text.specs.Fronts.{IsByteOf, IsFront};
 
 use crate::{Kind, Sign, Word};
 use merlin_base::{
@@ -37,7 +37,7 @@ fn is_blank(byte: u8) -> bool
 }
 
 fn goes_on(run: Run, byte: u8) -> bool
-    ensures { IsTrue result ↔ GoesOn run byte }
+    ensures { IsTrue result ↔ IsByteOf run byte }
 {
     match run {
         Run::Comment => byte != b'\n',
@@ -52,8 +52,8 @@ fn goes_on(run: Run, byte: u8) -> bool
 // How many bytes go on together from the first.
 fn run_length(text: &[u8], run: Run) -> usize
     ensures within { result ≤ length text.now }
-    ensures each { All (GoesOn run) (take result text.now) }
-    ensures longest { EndsBefore (GoesOn run) (drop result text.now) }
+    ensures each { All (IsByteOf run) (take result text.now) }
+    ensures longest { EndsBefore (IsByteOf run) (drop result text.now) }
 {
     for (length, byte) in text.iter().enumerate() {
         if !goes_on(run, *byte) {
@@ -64,7 +64,7 @@ fn run_length(text: &[u8], run: Run) -> usize
 }
 
 fn ends_before(rest: &[u8], run: Run) -> bool
-    ensures { IsTrue result ↔ EndsBefore (GoesOn run) rest.now }
+    ensures { IsTrue result ↔ EndsBefore (IsByteOf run) rest.now }
 {
     match rest {
         [] => true,

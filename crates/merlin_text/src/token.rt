@@ -13,7 +13,7 @@ pub struct Span {
 }
 
 /// A word of the language.
-#[derive(Clone, Copy)]
+#[derive(Clone, Copy, PartialEq, Eq)]
 pub enum Word {
     True,
     False,
@@ -29,7 +29,7 @@ pub enum Word {
 }
 
 /// A sign of the language.
-#[derive(Clone, Copy)]
+#[derive(Clone, Copy, PartialEq, Eq)]
 pub enum Sign {
     /// `:=`
     Becomes,

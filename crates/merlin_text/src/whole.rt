@@ -1,6 +1,6 @@
 // All tokens of a text.
 ghost use Rattle.std.specs.Prelude.{◌≡◌, ◌⊎◌, List, IfOk, IfErr, MatchResult, Err};
-ghost use Rattle.merlin_text.specs.Tokens.{AreTokens, AreSlices, IsFault};
+ghost use Rattle.merlin_text.specs.Tokens.{AreTokens, AreSlices, IsTokenFault};
 ghost use Rattle.merlin_text.specs.declared.token.Token.{Token};
 ghost use Rattle.merlin_text.specs.declared.token.TokenFault.{TokenFault};
 ghost use Rattle.merlin_text.specs.declared.token.TokenFault.TheVariants as faults;
@@ -12,11 +12,11 @@ use std::alloc::Global;
 /// The tokens of a policy text, in order. A fault is the first of the text.
 pub fn tokens(alloc: Global, bytes: &[u8]) -> Result<Vec<Token>, TokenFault>
     ensures tokens { IfOk result (λ tokens. AreTokens bytes.now tokens.items) }
-    ensures fault { IfErr result (IsFault bytes.now) }
+    ensures fault { IfErr result (IsTokenFault bytes.now) }
     ensures slices { IfOk result (λ tokens. AreSlices bytes.now 0 tokens.items) }
     ensures only { (tokens : List Token) → AreTokens bytes.now tokens →
         MatchResult result (λ kept. kept.items ≡ tokens) (λ fault. fault ≡ faults.OutOfMemory) }
-    ensures only_fault { (fault : TokenFault) → IsFault bytes.now fault →
+    ensures only_fault { (fault : TokenFault) → IsTokenFault bytes.now fault →
         (fault ≡ faults.OutOfMemory) ⊎ (result ≡ Err fault) ⊎ (result ≡ Err faults.OutOfMemory) }
 {
     match scan(bytes) {

@@ -1,7 +1,7 @@
 -- Where no middlebox acts no function runs, so a run is one by whatever functions a caller has.
 use Rattle.std.proofs.Common.{◌≡◌, ◌≢◌, ℕ, ◌==◌, ◌≤◌, Bool, true, false, cond, List, [], ◌∷◌, map, Option, None, Some, refl, sym, ◌∙◌, ap, subst}
-use Rattle.merlin_model.specs.declared.network.Kind.{Kind}
-use Rattle.merlin_model.specs.declared.network.Kind.TheVariants.{Host, Switch, Middlebox}
+use Rattle.merlin_model.specs.declared.network.LocationKind.{LocationKind}
+use Rattle.merlin_model.specs.declared.network.LocationKind.TheVariants.{Host, Switch, Middlebox}
 use Rattle.merlin_model.specs.declared.network.DirectedLink.{DirectedLink}
 use Rattle.merlin_model.specs.declared.config.Action.{Action}
 use Rattle.merlin_model.specs.declared.config.Action.TheVariants.{SetVlan, StripVlan, Output, Enqueue}
@@ -42,7 +42,7 @@ module _ (net : Network) where
   arrived_none loc (Some tag) f link to v e = cc
 
   -- a frame that no middlebox sends leaves no function behind
-  no_functions : (config : Config) (f : Frame) (o : Option Kind) (link : DirectedLink) (to : Option ℕ) (v : Visit) → o ≢ Some Middlebox → next_at net config f o ≡ Forwards link to v → v.functions ≡ []
+  no_functions : (config : Config) (f : Frame) (o : Option LocationKind) (link : DirectedLink) (to : Option ℕ) (v : Visit) → o ≢ Some Middlebox → next_at net config f o ≡ Forwards link to v → v.functions ≡ []
   no_functions config f None link to v away e = cc
   no_functions config f (Some Switch) link to v away e = switch_none f (acting_rule config.rules f) link to v e
   no_functions config f (Some Middlebox) link to v away e = absurd (away refl)

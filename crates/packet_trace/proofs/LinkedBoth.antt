@@ -1,7 +1,7 @@
 -- A hop leads over a directed link of the network, to a location.
 use Rattle.std.proofs.Common.{◌≡◌, ℕ, ◌<◌, ◌==◌, Bool, true, false, cond, List, [], ◌∷◌, length, Option, None, Some, find, inl, inr, sym}
-use Rattle.merlin_model.specs.declared.network.Kind.{Kind}
-use Rattle.merlin_model.specs.declared.network.Kind.TheVariants.{Host, Switch, Middlebox}
+use Rattle.merlin_model.specs.declared.network.LocationKind.{LocationKind}
+use Rattle.merlin_model.specs.declared.network.LocationKind.TheVariants.{Host, Switch, Middlebox}
 use Rattle.merlin_model.specs.declared.network.DirectedLink.{DirectedLink}
 use Rattle.merlin_model.specs.declared.config.Out.{Out}
 use Rattle.merlin_model.specs.declared.config.Out.TheVariants.{InPort, Port}
@@ -57,7 +57,7 @@ module _ (net : Network) where
   arrived_in loc None f link to v e = cc
   arrived_in loc (Some tag) f link to v e = cc
 
-  next_in : (config : Config) (f : Frame) (o : Option Kind) (link : DirectedLink) (to : Option ℕ) (v : Visit) → next_at net config f o ≡ Forwards link to v → In link (directed_links net)
+  next_in : (config : Config) (f : Frame) (o : Option LocationKind) (link : DirectedLink) (to : Option ℕ) (v : Visit) → next_at net config f o ≡ Forwards link to v → In link (directed_links net)
   next_in config f None link to v e = cc
   next_in config f (Some Switch) link to v e = switch_in f (acting_rule config.rules f) link to v e
   next_in config f (Some Middlebox) link to v e = middlebox_in f (acting_process config.processes f) link to v e

@@ -1,7 +1,7 @@
 -- Runs of a machine that has no line for a middlebox: each frame has one.
 use Rattle.std.proofs.Common.{◌≡◌, ◌≢◌, ℕ, suc, ◌+◌, List, [], ◌∷◌, ◌++◌, length, Option, None, Some, refl, sym, ◌∙◌, ap, subst, arith, append-nil}
-use Rattle.merlin_model.specs.declared.network.Kind.{Kind}
-use Rattle.merlin_model.specs.declared.network.Kind.TheVariants.{Host, Switch, Middlebox}
+use Rattle.merlin_model.specs.declared.network.LocationKind.{LocationKind}
+use Rattle.merlin_model.specs.declared.network.LocationKind.TheVariants.{Host, Switch, Middlebox}
 use Rattle.merlin_model.specs.declared.config.Config.{Config}
 use Rattle.merlin_model.specs.Packets.{Packet}
 use Rattle.merlin_model.specs.declared.network.DirectedLink.{DirectedLink}
@@ -18,13 +18,13 @@ module _ (net : Network) (config : Config) (no_process : config.processes ≡ []
   IsThis visits end records last = (records ≡ visits) × (last ≡ end)
 
   -- a frame hops from no middlebox
-  pub plain : (f : Frame) (o : Option Kind) (link : DirectedLink) (tag : Option ℕ) (visit : Visit) → next_at net config f o ≡ Forwards link tag visit → o ≢ Some Middlebox
+  pub plain : (f : Frame) (o : Option LocationKind) (link : DirectedLink) (tag : Option ℕ) (visit : Visit) → next_at net config f o ≡ Forwards link tag visit → o ≢ Some Middlebox
   plain f None link tag visit e is = cc
   plain f (Some (Host address)) link tag visit e is = cc
   plain f (Some Switch) link tag visit e is = cc
   plain f (Some Middlebox) link tag visit e is = Stops-Forwards (sym (ap (λ lines. at_middlebox net f (acting_process lines f)) no_process) ∙ e)
 
-  pub unchanged : (o : Option Kind) (p q : Packet) → o ≢ Some Middlebox → MayBecome o p q → q ≡ p
+  pub unchanged : (o : Option LocationKind) (p q : Packet) → o ≢ Some Middlebox → MayBecome o p q → q ≡ p
   unchanged None p q away h = h
   unchanged (Some (Host address)) p q away h = h
   unchanged (Some Switch) p q away h = h

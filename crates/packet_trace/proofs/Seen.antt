@@ -1,8 +1,8 @@
 -- From what is seen of a step to the machine's step.
 use Rattle.std.proofs.Common.{◌≡◌, ◌≢◌, ℕ, ◌<◌, List, [], ◌∷◌, ◌++◌, Option, None, Some, length, arith, refl, sym, ◌∙◌, ap, subst, map}
 use Rattle.std.proofs.lemmas.List.{map-append, length-map}
-use Rattle.merlin_model.specs.declared.network.Kind.{Kind}
-use Rattle.merlin_model.specs.declared.network.Kind.TheVariants as kind
+use Rattle.merlin_model.specs.declared.network.LocationKind.{LocationKind}
+use Rattle.merlin_model.specs.declared.network.LocationKind.TheVariants as kind
 use Rattle.merlin_model.specs.declared.config.Config.{Config}
 use Rattle.merlin_model.specs.Packets.{Packet}
 use Rattle.merlin_model.specs.Networks.{Network, IsNetwork, kind_of}
@@ -16,7 +16,7 @@ use Rattle.packet_trace.specs.Trace.{record_of, IsOnlyRun, IsOnlyTraceOf}
 use Rattle.packet_trace.proofs.Runs.{plain, only_run, reaches_more}
 use Rattle.packet_trace.proofs.LinkedBoth.{leads_to}
 
-stays : (o : Option Kind) (p : Packet) → o ≢ Some kind.Middlebox → MayBecome o p p
+stays : (o : Option LocationKind) (p : Packet) → o ≢ Some kind.Middlebox → MayBecome o p p
 stays None p away = refl
 stays (Some (kind.Host address)) p away = refl
 stays (Some kind.Switch) p away = refl

@@ -2,14 +2,14 @@
 use Rattle.std.proofs.Common.{◌≡◌, ◌≢◌, ℕ, zero, suc, ◌≤◌, ◌<◌, ◌+◌, ◌⊎◌, inl, inr, ◌↔◌, Bool, true, false, nat_lt, IsTrue, Vec, List, [], ◌∷◌, ◌++◌, length, slice_index_or, slice_get, option_map, Contains, Option, None, Some, IsSome, is_some, refl, sym, ◌∙◌, ap, subst, arith}
 use Rattle.std.proofs.lemmas.Option.{slice_get-get_or, slice_get_within}
 use Rattle.std.specs.declared.alloc.Global.{Global}
-use Rattle.merlin_model.specs.declared.network.Kind.TheVariants.{Switch}
+use Rattle.merlin_model.specs.declared.network.LocationKind.TheVariants.{Switch}
 use Rattle.merlin_model.specs.declared.network.Location.{Location}
 use Rattle.merlin_model.specs.declared.network.DirectedLink.{DirectedLink}
 use Rattle.merlin_model.specs.Networks.{Network, kind_of, address_at, address_of, IsHost, IsSwitch, directed_links, back_of, IsNetwork}
 use Rattle.merlin_model.proofs.Members.{all_in, in_from}
 use Rattle.merlin_model.proofs.DirectedLinks.{way_back}
 use Rattle.rules_model.specs.Plain.{AreLevels, IsHopDown, IsNextHop}
-use Rattle.plain_compile.specs.declared.routes.Graph.{Graph}
+use Rattle.plain_compile.specs.declared.routes.LinkGraph.{LinkGraph}
 use Rattle.plain_compile.specs.Levels.{AreWithin, is_at, level_of, IsLevelledTo, AreLevelsTo}
 use Rattle.plain_compile.specs.Hops.{hop_of, IsHopBy}
 use Rattle.plain_compile.specs.Routes.{IsGraphOf, hops_for, next_in}
@@ -22,7 +22,7 @@ false-true e = cc
 from_within : (net : Network) → IsNetwork net → (w : DirectedLink) → Contains (directed_links net) w → w.from < length net.locations
 from_within net ok w c = (all_in _ (directed_links net) w ok.ends (in_from (directed_links net) w c)).0
 
-pub within : (net : Network) → IsNetwork net → (graph : Graph) → IsGraphOf net graph → AreWithin graph.directed_links.items (length graph.switches.items)
+pub within : (net : Network) → IsNetwork net → (graph : LinkGraph) → IsGraphOf net graph → AreWithin graph.directed_links.items (length graph.switches.items)
 within net ok graph is k d lt = (bound link present, bound (back_of link) (way_back net link present))
   where
     link : DirectedLink
@@ -37,7 +37,7 @@ within net ok graph is k d lt = (bound link present, bound (back_of link) (way_b
     bound : (w : DirectedLink) → Contains (directed_links net) w → w.from < length graph.switches.items
     bound w c = subst (λ n. w.from < n) (sym is.size) (from_within net ok w c)
 
-module _ (net : Network) (ok : IsNetwork net) (graph : Graph) (is : IsGraphOf net graph) (host : ℕ) (hosts : IsHost net host) (levels : List (Option ℕ)) (are : AreLevelsTo graph.directed_links.items graph.switches.items host levels) where
+module _ (net : Network) (ok : IsNetwork net) (graph : LinkGraph) (is : IsGraphOf net graph) (host : ℕ) (hosts : IsHost net host) (levels : List (Option ℕ)) (are : AreLevelsTo graph.directed_links.items graph.switches.items host levels) where
   abbrev h : IsLevelledTo graph.directed_links.items graph.switches.items host are.0 levels
   h = are.1
 
@@ -108,7 +108,7 @@ host_within net v h = by (slice_get net.locations v) refl h
     by (Some l) at e = slice_get_within net.locations v l at
 
 -- what a search over lists that are those of the ground finds
-pub found : (net : Network) → IsNetwork net → (graph : Graph) → IsGraphOf net graph → (host : ℕ) → IsHost net host →
+pub found : (net : Network) → IsNetwork net → (graph : LinkGraph) → IsGraphOf net graph → (host : ℕ) → IsHost net host →
     (ws vs : List DirectedLink) (ss : List Bool) (levels same : List (Option ℕ)) → ws ≡ graph.directed_links.items → vs ≡ graph.directed_links.items → ss ≡ graph.switches.items → same ≡ levels →
     AreLevelsTo ws ss host levels → (hops : List (Option DirectedLink)) → ((v : ℕ) → v < length same → IsHopBy vs same v (hop_of hops v)) →
     AreLevels net host (level_of levels) × ((v : ℕ) → IsSwitch net v → IsHopDown net (level_of levels) v (hop_of hops v))

@@ -3,12 +3,12 @@ use Rattle.std.specs.Prelude.{ℕ, ◌≡◌, ◌↔◌, List, [], length, IsTru
 use Rattle.std.specs.declared.alloc.Global.{Global}
 use Rattle.merlin_model.specs.declared.network.DirectedLink.{DirectedLink}
 use Rattle.merlin_model.specs.Networks.{Network, IsSwitch, directed_links}
-use Rattle.plain_compile.specs.declared.routes.Graph.{Graph}
+use Rattle.plain_compile.specs.declared.routes.LinkGraph.{LinkGraph}
 use Rattle.plain_compile.specs.Levels.{is_at}
 use Rattle.plain_compile.specs.Hops.{hop_of}
 
 -- the ground is that of the network
-pub record IsGraphOf (net : Network) (graph : Graph) : Type 0 where
+pub record IsGraphOf (net : Network) (graph : LinkGraph) : Type 0 where
   pub directed_links : graph.directed_links.items ≡ directed_links net
   pub size : length graph.switches.items ≡ length net.locations
   pub switches : (v : ℕ) → IsTrue (is_at graph.switches.items v) ↔ IsSwitch net v

@@ -6,28 +6,15 @@ ghost use Rattle.rules_model.specs.Tables.{is_host_kind, is_switch_kind, tag_rul
 ghost use Rattle.rules_model.specs.Plain.{row_over, hop_over, entry_between};
 
 use merlin_model::OutOfMemory;
-use merlin_model::config::{Action, Actions, Match, Out, Rule, Vlan};
+use merlin_model::config::{ANY, Action, Actions, Match, Out, Rule, Vlan};
 use merlin_model::network::DirectedLink;
 use rules_model::attached_host::AttachedHost;
+use rules_model::priorities::{BACK_PRIORITY, TAG_PRIORITY, WHOLE_PRIORITY};
 use std::alloc::Global;
 use topology::{Place, Topology};
 
 /// The only tag: all packets are of one group, and there is one vertex at a switch.
 const TAG: u16 = 1;
-
-/// The match that names nothing.
-const ANY: Match = Match {
-    in_port: None,
-    dl_src: None,
-    dl_dst: None,
-    dl_vlan: None,
-    dl_type: false,
-    nw_proto: None,
-    nw_src: None,
-    nw_dst: None,
-    tp_src: None,
-    tp_dst: None,
-};
 
 /// Whether there is a host at the location.
 pub fn is_host(net: &Topology, loc: usize) -> bool
@@ -69,7 +56,7 @@ pub fn tag_rule(
     let actions = [label(net, link), Action::Output(Out::Port(link.out_port))];
     Ok(Rule {
         loc,
-        priority: 100,
+        priority: TAG_PRIORITY,
         fits: Match {
             dl_dst: Some(host.address.eth),
             dl_vlan: Some(Vlan::Tag(TAG)),
@@ -93,7 +80,7 @@ pub fn back_rule(
     let actions = [label(net, link), Action::Output(Out::InPort)];
     Ok(Rule {
         loc,
-        priority: 200,
+        priority: BACK_PRIORITY,
         fits: Match {
             in_port: Some(link.out_port),
             dl_dst: Some(host.address.eth),
@@ -138,7 +125,7 @@ pub fn cell_rule(
     let actions = ingress_actions(alloc, net, hop)?;
     Ok(Rule {
         loc: source.link.to,
-        priority: 20,
+        priority: WHOLE_PRIORITY,
         fits: Match {
             in_port: Some(source.link.in_port),
             dl_src: Some(source.address.eth),

@@ -15,13 +15,13 @@ use topology::{Place, Topology, directed_links_of};
 
 /// What a search goes over: the directed links of a network, and whether each location is a switch.
 #[derive(Drop)]
-pub struct Graph {
+pub struct LinkGraph {
     pub directed_links: Vec<DirectedLink>,
     pub switches: Vec<bool>,
 }
 
 // The ground of a network.
-fn graph_of(alloc: Global, net: &Topology) -> Result<Graph, OutOfMemory>
+fn graph_of(alloc: Global, net: &Topology) -> Result<LinkGraph, OutOfMemory>
     ensures { IfOk result (IsGraphOf net.now) }
 {
     let directed_links = directed_links_of(alloc, net.links())?;
@@ -29,7 +29,7 @@ fn graph_of(alloc: Global, net: &Topology) -> Result<Graph, OutOfMemory>
     for loc in 0..net.locations() {
         switches.push(net.place(loc) == Place::Switch)?;
     }
-    Ok(Graph {
+    Ok(LinkGraph {
         directed_links,
         switches,
     })
@@ -39,7 +39,7 @@ fn graph_of(alloc: Global, net: &Topology) -> Result<Graph, OutOfMemory>
 fn hops_towards(
     alloc: Global,
     net: &Topology,
-    graph: &Graph,
+    graph: &LinkGraph,
     host: usize,
 ) -> Result<Vec<Option<DirectedLink>>, OutOfMemory>
     requires lawful { IsNetwork net.now }

@@ -9,7 +9,7 @@ use Rattle.policy_grammar.specs.declared.written.Item.{Item}
 use Rattle.policy_grammar.specs.declared.written.Literal.{Literal}
 use Rattle.policy_grammar.specs.declared.written.WrittenPolicy.{WrittenPolicy}
 use Rattle.policy_expansion.specs.declared.writing.Written.{Written}
-use Rattle.policy_expansion.specs.WrittenOut.{listed, statements_of, written_out}
+use Rattle.policy_expansion.specs.WrittenOut.{without_formula, statements_of, written_out}
 use Rattle.policy_expansion.specs.Adding.{Adds}
 use Rattle.policy_expansion.specs.Faults.{fault_of}
 use Rattle.policy_expansion.specs.Expansion.{terms_of, policy_of, expansion}
@@ -32,7 +32,7 @@ one_more known items left more item a b w e adds = record {
 }
 
 -- the policy of the statements, where there is no fault
-pub expanded : (w : WrittenPolicy) (whole : Written) (terms : List Term) → fault_of (listed w.sets w.items w.default_path) ≡ None → Adds (record { statements = []; terms = [] }) whole (statements_of (listed w.sets w.items w.default_path))
+pub expanded : (w : WrittenPolicy) (whole : Written) (terms : List Term) → fault_of (without_formula w.sets w.items w.default_path) ≡ None → Adds (record { statements = []; terms = [] }) whole (statements_of (without_formula w.sets w.items w.default_path))
     → terms ≡ whole.terms ++ w.terms → expansion w ≡ Ok (record { statements = whole.statements; default_path = w.default_path; formula = record { terms = terms } })
 expanded w whole terms none adds more =
     let all : terms ≡ flat_map terms_of (statements_of w) ++ w.terms = more ∙ ap (λ ts. ts ++ w.terms) adds.terms in

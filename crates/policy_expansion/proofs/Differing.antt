@@ -7,6 +7,7 @@ use Rattle.std.proofs.lemmas.List.{take_at, length_push, length-map}
 use Rattle.std.proofs.lemmas.List.Folds.{list_any-append}
 use Rattle.std.proofs.lemmas.Slice.Eq.{bytes_eq-Decides}
 use Rattle.merlin_model.specs.Networks.{AreDifferent}
+use Rattle.policy_expansion.specs.declared.limits.TheConstants.{MAX_STATEMENTS}
 use Rattle.policy_grammar.specs.declared.written.WrittenPolicy.{WrittenPolicy}
 use Rattle.policy_expansion.specs.declared.policy.Policy.{Policy}
 use Rattle.policy_expansion.specs.declared.policy.ExpansionFault.{ExpansionFault}
@@ -72,8 +73,8 @@ first_none : (a b : Option ExpansionFault) → option_or a b ≡ None → a ≡ 
 first_none None b e = refl
 first_none (Some f) b e = cc
 
-within : (count : ℕ) → too_many count ≡ None → count ≤ 4096
-within count e = grind (arith, not_first (nat_lt 4096 count) (TooManyStatements 4097) None e)
+within : (count : ℕ) → too_many count ≡ None → count ≤ MAX_STATEMENTS
+within count e = grind (arith, not_first (nat_lt MAX_STATEMENTS count) (TooManyStatements (MAX_STATEMENTS + 1)) None e)
 
 pub told : (o : Option ExpansionFault) (made policy : Policy) → option_map_or Err o (Ok made) ≡ Ok policy → (o ≡ None) × (made ≡ policy)
 told None made policy e = (refl, cc)
@@ -88,9 +89,9 @@ is_expanded w policy e =
     let names_told = option_or (unknown_set (known_literals w.sets) w.items) count_told in
     let kinds_told = option_or (mixed_set w.sets) names_told in
     let counted = later_none (unknown_set (known_literals w.sets) w.items) count_told (later_none (mixed_set w.sets) names_told (later_none (duplicate_set w.sets) kinds_told t.0)) in
-    let few : count ≤ 4096 = within count (first_none (too_many count) ids_told counted) in
+    let few : count ≤ MAX_STATEMENTS = within count (first_none (too_many count) ids_told counted) in
     let ids = none_below DuplicateId (first_repeat (map (λ s. s.id) (statements_of w))) (later_none (too_many count) ids_told counted) in
     subst IsExpanded t.1 (record {
-      few = subst (λ (n : ℕ). n + count_of_default w.default_path ≤ 4096) (sym (length-map (statements_of w) plain)) few;
+      few = subst (λ (n : ℕ). n + count_of_default w.default_path ≤ MAX_STATEMENTS) (sym (length-map (statements_of w) plain)) few;
       ids = subst AreDifferent (sym (same_ids (statements_of w))) (different_names (map (λ s. s.id) (statements_of w)) ids);
     })

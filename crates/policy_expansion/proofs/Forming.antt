@@ -16,7 +16,7 @@ use Rattle.policy_grammar.specs.declared.written.Item.{Item}
 use Rattle.policy_grammar.specs.declared.written.Item.TheVariants.{One, ForEach}
 use Rattle.policy_grammar.specs.declared.written.WrittenPolicy.{WrittenPolicy}
 use Rattle.policy_expansion.specs.declared.policy.Policy.{Policy}
-use Rattle.policy_expansion.specs.WrittenOut.{unlike, first_places, bears, known_literals, pairs_from, pairs, from_source, to_destination, for_pair, written_out, statements_of}
+use Rattle.policy_expansion.specs.WrittenOut.{unlike, first_places, has_name, known_literals, pairs_from, pairs, from_source, to_destination, for_pair, written_out, statements_of}
 use Rattle.policy_expansion.specs.Faults.{fault_of}
 use Rattle.policy_expansion.specs.Expansion.{plain, term_of, terms_of, policy_of, expansion}
 use Rattle.policy_expansion.specs.Kept.{IsLiteral, IsTerm, IsStatement, statement_in, IsWellWritten, IsWellFormed}
@@ -56,9 +56,9 @@ literals_stay (a ∷ others) h = (h.0, all_filter IsLiteral (unlike a) (first_pl
 
 literals_known : (sets : List WrittenSet) (name : List ℕ) → AllByRecursion (λ set. AllByRecursion IsLiteral set.literals) sets → AllByRecursion IsLiteral (unwrap_or (known_literals sets name) [])
 literals_known [] name h = tt
-literals_known (set ∷ sets) name h = by (bears name set) (literals_known sets name h.1)
+literals_known (set ∷ sets) name h = by (has_name name set) (literals_known sets name h.1)
   where
-    by : (b : Bool) → AllByRecursion IsLiteral (unwrap_or (known_literals sets name) []) → AllByRecursion IsLiteral (unwrap_or (option_map (λ found. first_places found.literals) (cond b (Some set) (find (bears name) sets))) [])
+    by : (b : Bool) → AllByRecursion IsLiteral (unwrap_or (known_literals sets name) []) → AllByRecursion IsLiteral (unwrap_or (option_map (λ found. first_places found.literals) (cond b (Some set) (find (has_name name) sets))) [])
     by true rest = literals_stay set.literals h.0
     by false rest = rest
 

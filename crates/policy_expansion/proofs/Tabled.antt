@@ -15,7 +15,7 @@ use Rattle.std.proofs.lemmas.Map.Text.{btree_map_updates_str, is_eq-slice_cmp}
 use Rattle.std.proofs.lemmas.Slice.Eq.{bytes_eq-Decides}
 use Rattle.policy_grammar.specs.declared.written.Literal.{Literal}
 use Rattle.policy_grammar.specs.declared.written.WrittenSet.{WrittenSet}
-use Rattle.policy_expansion.specs.WrittenOut.{bears, first_places, known_literals}
+use Rattle.policy_expansion.specs.WrittenOut.{has_name, first_places, known_literals}
 use Rattle.policy_expansion.specs.Tables.{under, is_met}
 use Rattle.policy_expansion.proofs.Repeated.{is_some-find}
 use denote.Ref.{Bor}
@@ -43,7 +43,7 @@ module _ (sets : List WrittenSet) (i : ℕ) (x : WrittenSet) (within : i < lengt
     (filled : (name : List ℕ) → under table name ≡ known_literals (take i sets) name) where
   -- whether the name of a set stands in the table of those before it
   pub stood : is_some (under table x.name) ≡ list_any (λ other. bytes_eq other.name x.name) (take i sets)
-  stood = ap is_some (filled x.name) ∙ (is_some-map (λ set. first_places set.literals) (find (bears x.name) (take i sets)) ∙ is_some-find (bears x.name) (take i sets))
+  stood = ap is_some (filled x.name) ∙ (is_some-map (λ set. first_places set.literals) (find (has_name x.name) (take i sets)) ∙ is_some-find (has_name x.name) (take i sets))
 
   pub filled_more : (new : BTreeMap (Bor (List ℕ)) (List Literal)) (key : List ℕ) (kept : List Literal) → is_some (under table x.name) ≡ false → key ≡ x.name → kept ≡ first_places x.literals
       → tree.UpdatesBy (λ a b. slice_cmp nat_cmp a.now b.now) (λ other. slice_cmp nat_cmp key other.now) table new (Some kept)
@@ -52,13 +52,13 @@ module _ (sets : List WrittenSet) (i : ℕ) (x : WrittenSet) (within : i < lengt
       btree_map_updates_str key table new (Some kept) updates name
       ∙ ((λ k. cond (bytes_eq (named k) name) (Some (is_kept k)) (under table name))
       ∙ (ap (cond (bytes_eq x.name name) (Some (first_places x.literals))) (filled name)
-      ∙ (joined (λ set. first_places set.literals) x (find (bears name) (take i sets)) (bytes_eq x.name name) free
-      ∙ ap (option_map (λ set. first_places set.literals)) (sym (find-append (bears name) (take i sets) (x ∷ [])) ∙ ap (find (bears name)) (sym more)))))
+      ∙ (joined (λ set. first_places set.literals) x (find (has_name name) (take i sets)) (bytes_eq x.name name) free
+      ∙ ap (option_map (λ set. first_places set.literals)) (sym (find-append (has_name name) (take i sets) (x ∷ [])) ∙ ap (find (has_name name)) (sym more)))))
     where
       more : take (i + 1) sets ≡ take i sets ++ x ∷ []
       more = take_more sets i x within ∙ ap (λ y. take i sets ++ y ∷ []) (sym is)
 
-      free : bytes_eq x.name name ≡ true → find (bears name) (take i sets) ≡ None
+      free : bytes_eq x.name name ≡ true → find (has_name name) (take i sets) ≡ None
       free e =
           let same : x.name ≡ name = (bytes_eq-Decides x.name name).0 e in
           none_below (λ set. first_places set.literals) _ (sym (filled name) ∙ (ap (under table) (sym same) ∙ none_from _ absent))

@@ -2,6 +2,7 @@
 use Rattle.std.specs.Prelude.{ℕ, ◌≡◌, ◌+◌, nat_lt, Bool, true, false, not, ◌&&◌, ⊤, List, [], ◌∷◌, map, take, length, flat_map, find, Option, None, Some, option_map, is_some, bytes_eq, if◌then◌else◌}
 use Rattle.std.specs.List.{enumerate_from, list_any}
 use Rattle.std.specs.Option.{option_or}
+use Rattle.policy_expansion.specs.declared.limits.TheConstants.{MAX_STATEMENTS}
 use Rattle.policy_grammar.specs.declared.written.Literal.{Literal}
 use Rattle.policy_grammar.specs.declared.written.Literal.TheVariants.{Mac, Ip}
 use Rattle.policy_grammar.specs.declared.written.WrittenSet.{WrittenSet}
@@ -55,7 +56,7 @@ count_of_default path = if is_some path then 1 else 0
 
 -- more than 4,096 statements, with the default
 abbrev pub too_many : ℕ → Option ExpansionFault
-too_many count = if nat_lt 4096 count then Some (TooManyStatements 4097) else None
+too_many count = if nat_lt MAX_STATEMENTS count then Some (TooManyStatements (MAX_STATEMENTS + 1)) else None
 
 -- the first statement whose id an earlier one bears
 abbrev pub duplicate_id : List (List ℕ) → Option ExpansionFault

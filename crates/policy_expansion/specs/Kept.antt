@@ -7,6 +7,7 @@ use Rattle.merlin_model.specs.Rates.{ids_of}
 use Rattle.merlin_model.specs.declared.policy.Part.{Part}
 use Rattle.merlin_model.specs.declared.policy.Part.TheVariants.{Id, Constant}
 use Rattle.merlin_model.specs.declared.policy.Term.{Term}
+use Rattle.policy_expansion.specs.declared.limits.TheConstants.{MAX_STATEMENTS}
 use Rattle.policy_grammar.specs.declared.written.Literal.{Literal}
 use Rattle.policy_grammar.specs.declared.written.Literal.TheVariants.{Mac, Ip}
 use Rattle.policy_grammar.specs.declared.written.WrittenStatement.{WrittenStatement}
@@ -18,7 +19,7 @@ use Rattle.policy_expansion.specs.Faults.{count_of_default}
 
 -- few statements, with the default, under ids that differ
 pub record IsExpanded (policy : Policy) : Type 0 where
-  pub few : length policy.statements + count_of_default policy.default_path ≤ 4096
+  pub few : length policy.statements + count_of_default policy.default_path ≤ MAX_STATEMENTS
   pub ids : AreDifferent (map (λ s. s.id) policy.statements)
 
 -- an address that fits its width

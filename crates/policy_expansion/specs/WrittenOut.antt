@@ -26,12 +26,12 @@ first_places [] = []
 first_places (a ∷ others) = a ∷ filter (unlike a) (first_places others)
 
 -- whether a set bears a name
-abbrev pub bears : List ℕ → WrittenSet → Bool
-bears name set = bytes_eq set.name name
+abbrev pub has_name : List ℕ → WrittenSet → Bool
+has_name name set = bytes_eq set.name name
 
 -- the literals of the set of this name, if there is one
 abbrev pub known_literals : List WrittenSet → List ℕ → Option (List Literal)
-known_literals sets name = option_map (λ set. first_places set.literals) (find (bears name) sets)
+known_literals sets name = option_map (λ set. first_places set.literals) (find (has_name name) sets)
 
 -- The pairs of unlike literals from two sets: each literal of the outer set in turn, with each of the inner one.
 
@@ -73,5 +73,5 @@ abbrev pub statements_of : WrittenPolicy → List WrittenStatement
 statements_of w = flat_map (written_out (known_literals w.sets)) w.items
 
 -- a policy of these sets, items and default, without a formula
-abbrev pub listed : List WrittenSet → List Item → Option RawPath → WrittenPolicy
-listed sets items default = record { sets = sets; items = items; default_path = default; terms = [] }
+abbrev pub without_formula : List WrittenSet → List Item → Option RawPath → WrittenPolicy
+without_formula sets items default = record { sets = sets; items = items; default_path = default; terms = [] }

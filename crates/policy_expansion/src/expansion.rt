@@ -1,6 +1,6 @@
 //! The policy that a policy as it is written stands for.
 ghost use Rattle.std.specs.Prelude.{◌≡◌, [], None, IfOk, IfErr};
-ghost use Rattle.policy_expansion.specs.WrittenOut.{listed, statements_of};
+ghost use Rattle.policy_expansion.specs.WrittenOut.{without_formula, statements_of};
 ghost use Rattle.policy_expansion.specs.Faults.{fault_of, IsFault};
 ghost use Rattle.policy_expansion.specs.Expansion.{IsExpansion};
 ghost use Rattle.policy_expansion.specs.Adding.{Adds};
@@ -44,10 +44,11 @@ fn lawful_statements(
     default_path: &Option<RawPath>,
 ) -> Result<Written, ExpansionFault>
     ensures ok { IfOk result (λ whole.
-        (fault_of (listed sets.now items default_path.now) ≡ None) ×
+        (fault_of (without_formula sets.now items default_path.now) ≡ None) ×
         Adds (record { statements = []; terms = [] }) whole
-        (statements_of (listed sets.now items default_path.now))) }
-    ensures err { IfErr result (IsFault (fault_of (listed sets.now items default_path.now))) }
+        (statements_of (without_formula sets.now items default_path.now))) }
+    ensures err { IfErr result (IsFault
+        (fault_of (without_formula sets.now items default_path.now))) }
 {
     let known = sets_of(alloc, sets)?;
     ask_kinds(alloc, sets)?;

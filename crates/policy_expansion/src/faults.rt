@@ -7,6 +7,7 @@ ghost use Rattle.policy_expansion.specs.Faults.{is_mac as is_ethernet, mixed_set
 ghost use Rattle.policy_expansion.specs.declared.policy.ExpansionFault.TheVariants.{OutOfMemory};
 ghost use Rattle.policy_expansion.specs.Tables.{under};
 
+use crate::limits::MAX_STATEMENTS;
 use crate::pairs::room_after_pairs;
 use crate::policy::{ExpansionFault, Statement};
 use crate::sets::{Sets, is_known, literals_in};
@@ -14,8 +15,6 @@ use merlin_model::Name;
 use policy_grammar::written::{Item, Literal, RawPath, WrittenSet};
 use std::alloc::Global;
 use std::collections::BTreeSet;
-
-const MAX_STATEMENTS: usize = 4096;
 
 fn is_mac(literal: Literal) -> bool
     ensures { result ≡ is_ethernet literal }

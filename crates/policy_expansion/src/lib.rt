@@ -4,6 +4,7 @@
 mod expansion;
 mod faults;
 pub mod laws;
+pub mod limits;
 mod literals;
 mod pairs;
 mod policy;

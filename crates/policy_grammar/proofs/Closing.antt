@@ -13,6 +13,7 @@ use Rattle.merlin_text.specs.declared.token.Word.{Word}
 use Rattle.merlin_text.specs.declared.token.Word.TheVariants as words
 use Rattle.merlin_text.specs.declared.token.Sign.{Sign}
 use Rattle.merlin_text.specs.declared.token.Sign.TheVariants as signs
+use Rattle.policy_grammar.specs.declared.limits.TheConstants.{MAX_NESTING, MAX_PATH_NAMES, MAX_TESTS}
 use Rattle.policy_grammar.specs.declared.written.Literal.{Literal}
 use Rattle.policy_grammar.specs.declared.written.Literal.TheVariants.{Ip}
 use Rattle.policy_grammar.specs.declared.written.RawPath.{RawPath, Dot, Not as NotPath}
@@ -25,8 +26,8 @@ use Rattle.merlin_base.specs.Lexemes.{IsDigit, AreDigits, IsLetter, IsNameByte, 
 use Rattle.std.proofs.lemmas.List.Elements.{All-from_recursion}
 use Rattle.policy_grammar.specs.Lexemes.{Lexeme, IsSpelled, name, word, sign, number, rate, mac, ip}
 use Rattle.policy_grammar.specs.Predicates.{all_of, any_of, test_of}
-use Rattle.policy_grammar.specs.PathTexts.{cat_of, alt_of}
-use Rattle.policy_grammar.specs.Machine.{Head, Heading, Opened, Awaited, this_sign, this_word, any_name, literal, negation, lits, conjs, bracket, second, value_of, rep, prim, path_negation, reps, alts, path_bracket, sets, set_start, set_rest, set_more, item, outer_set, inner_set, each_id, statement_pred, statement_path, default_path, limit, limit_rate, limit_rest, formula, terms_rest, term, leading, sum_rest, summand, term_rate, State, on, opens, sign_number, word_number, put, put_path, repeated, is_first, field_at, then_some, begins_rep, closed, listed, with_set, with_limit, with_term, feed_sign, feed_word, feed_name, feed_literal, feed_lits, feed_conjs, feed_pred, feed_second, feed_value, feed_rep, feed_prim, feed_sequence, feed_alts, feed_path, feed_opened, feed_end, feed_sets, feed_set_start, feed_set_rest, feed_set_more, feed_item, feed_outer, feed_inner, feed_each_id, feed_limit, feed_limit_rate, feed_limit_rest, feed_formula, feed_terms_rest, feed_term, feed_leading, feed_sum_rest, feed_summand, feed_term_rate, feed_all, next, run, at, start}
+use Rattle.policy_grammar.specs.PathTexts.{one_or_cat, one_or_alt}
+use Rattle.policy_grammar.specs.Machine.{Head, Heading, Opened, Awaited, this_sign, this_word, any_name, literal, negation, lits, conjs, bracket, second, value_of, rep, prim, path_negation, reps, alts, path_bracket, sets, set_start, set_rest, set_more, item, outer_set, inner_set, each_id, statement_pred, statement_path, default_path, limit, limit_rate, limit_rest, formula, terms_rest, term, leading, sum_rest, summand, term_rate, State, on, opens, sign_number, word_number, put, put_path, repeated, is_first, field_at, then_some, begins_rep, closed, with_list, with_set, with_limit, with_term, feed_sign, feed_word, feed_name, feed_literal, feed_lits, feed_conjs, feed_pred, feed_second, feed_value, feed_rep, feed_prim, feed_sequence, feed_alts, feed_path, feed_opened, feed_end, feed_sets, feed_set_start, feed_set_rest, feed_set_more, feed_item, feed_outer, feed_inner, feed_each_id, feed_limit, feed_limit_rate, feed_limit_rest, feed_formula, feed_terms_rest, feed_term, feed_leading, feed_sum_rest, feed_summand, feed_term_rate, feed_all, next_step, run, awaiting, first_state}
 
 -- The states that can stand.
 
@@ -81,7 +82,7 @@ pub data Good : List Awaited → ℕ → Type 0 where
   good_summand : {w : WrittenPolicy} {b : Bound} {ps : List Part} {n : ℕ} → Good (summand w b ps ∷ []) n
   good_term_rate : {w : WrittenPolicy} {b : Bound} {ps : List Part} {n : ℕ} → Good (term_rate w b ps ∷ []) n
 
-pub start_good : Good start.awaited start.left
+pub start_good : Good first_state.awaited first_state.left
 start_good = good_sets
 
 -- A lexeme leads from such a state to such a state.
@@ -103,11 +104,11 @@ kept_some None f g = tt
 kept_some (Some x) f g = g x
 
 kept_sign : (s : Sign) (k : List Awaited) (n : ℕ) (t : Lexeme) → Good k n → IsKept (feed_sign s k n t)
-kept_sign s k n (sign t) g = kept_if (sign_number s == sign_number t) (at k n) (λ _. g)
+kept_sign s k n (sign t) g = kept_if (sign_number s == sign_number t) (awaiting k n) (λ _. g)
 kept_sign s k n _ g = tt
 
 kept_word : (s : Word) (k : List Awaited) (n : ℕ) (t : Lexeme) → Good k n → IsKept (feed_word s k n t)
-kept_word s k n (word t) g = kept_if (word_number s == word_number t) (at k n) (λ _. g)
+kept_word s k n (word t) g = kept_if (word_number s == word_number t) (awaiting k n) (λ _. g)
 kept_word s k n _ g = tt
 
 kept_name : (k : List Awaited) (n : ℕ) (t : Lexeme) → Good k n → IsKept (feed_name k n t)
@@ -119,20 +120,20 @@ good_put p _ n (banged {k = k} g) = good_put (Not p) k n g
 good_put p _ n (in_conj g) = good_lits g
 
 kept_literal : (k : List Awaited) (n : ℕ) (t : Lexeme) → TakesLit k → IsKept (feed_literal k n t)
-kept_literal k n (sign signs.Bang) g = kept_if (nat_lt (opens k) 128) (at (literal ∷ negation ∷ k) n) (λ _. good_literal (banged g))
-kept_literal k n (sign signs.OpenGroup) g = kept_if (nat_lt (opens k) 128) (at (literal ∷ lits [] ∷ conjs [] ∷ bracket ∷ k) n) (λ _. good_literal (in_conj (in_bracket g)))
+kept_literal k n (sign signs.Bang) g = kept_if (nat_lt (opens k) MAX_NESTING) (awaiting (literal ∷ negation ∷ k) n) (λ _. good_literal (banged g))
+kept_literal k n (sign signs.OpenGroup) g = kept_if (nat_lt (opens k) MAX_NESTING) (awaiting (literal ∷ lits [] ∷ conjs [] ∷ bracket ∷ k) n) (λ _. good_literal (in_conj (in_bracket g)))
 kept_literal k n (word words.True) g = good_put Yes k n g
 kept_literal k n (word words.False) g = good_put No k n g
 kept_literal k zero (name a _) g = tt
-kept_literal k (suc n) (name a _) g = kept_if (is_first a) (at (this_sign signs.Dot ∷ second a ∷ k) n) (λ e. good_sign (good_second e g))
+kept_literal k (suc n) (name a _) g = kept_if (is_first a) (awaiting (this_sign signs.Dot ∷ second a ∷ k) n) (λ e. good_sign (good_second e g))
 kept_literal k n _ g = tt
 
 kept_second : (a : List ℕ) (k : List Awaited) (n : ℕ) (t : Lexeme) → TakesLit k → IsKept (feed_second a k n t)
-kept_second a k n (name b _) g = kept_some (field_at a b) (λ f. at (this_sign signs.Equals ∷ value_of f ∷ k) n) (λ f. good_sign (good_value g))
+kept_second a k n (name b _) g = kept_some (field_at a b) (λ f. awaiting (this_sign signs.Equals ∷ value_of f ∷ k) n) (λ f. good_sign (good_value g))
 kept_second a k n _ g = tt
 
 kept_value : (f : Tested) (k : List Awaited) (n : ℕ) (t : Lexeme) → TakesLit k → IsKept (feed_value f k n t)
-kept_value f k n t g = kept_some (test_of f t) (λ p. at (put (Tests p) k) n) (λ p. good_put (Tests p) k n g)
+kept_value f k n t g = kept_some (test_of f t) (λ p. awaiting (put (Tests p) k) n) (λ p. good_put (Tests p) k n g)
 
 kept_pred : (p : Pred) (k : List Awaited) (n : ℕ) (t : Lexeme) → TakesPred k → IsKept (feed_pred p k n t)
 kept_pred p _ n (sign signs.CloseGroup) (in_bracket {k = k} g) = good_put p k n g
@@ -150,8 +151,8 @@ kept_lits ls ps k n t g = kept_conjs (ps ++ all_of ls ∷ []) k n t g
 
 kept_rep : (k : List Awaited) (n : ℕ) (t : Lexeme) → TakesRep k → IsKept (feed_rep k n t)
 kept_rep k zero t g = tt
-kept_rep k (suc n) (sign signs.Bang) g = kept_if (nat_lt (opens k) 128) (at (rep ∷ path_negation ∷ k) (suc n)) (λ _. good_rep (omega arith) (path_banged g))
-kept_rep k (suc n) (sign signs.OpenGroup) g = kept_if (nat_lt (opens k) 128) (at (rep ∷ reps [] ∷ alts [] ∷ path_bracket ∷ k) (suc n)) (λ _. good_rep (omega arith) (in_seq (in_path_bracket g)))
+kept_rep k (suc n) (sign signs.Bang) g = kept_if (nat_lt (opens k) MAX_NESTING) (awaiting (rep ∷ path_negation ∷ k) (suc n)) (λ _. good_rep (omega arith) (path_banged g))
+kept_rep k (suc n) (sign signs.OpenGroup) g = kept_if (nat_lt (opens k) MAX_NESTING) (awaiting (rep ∷ reps [] ∷ alts [] ∷ path_bracket ∷ k) (suc n)) (λ _. good_rep (omega arith) (in_seq (in_path_bracket g)))
 kept_rep k (suc n) (sign signs.Dot) g = good_prim g
 kept_rep k (suc n) (name a p) g = good_prim g
 kept_rep k (suc n) _ g = tt
@@ -174,16 +175,16 @@ kept_path p _ n (sign signs.CloseList) of_default = good_formula
 kept_path p _ n _ of_default = tt
 
 kept_alts : (ps : List RawPath) (k : List Awaited) (n : ℕ) (t : Lexeme) → TakesPath k → IsKept (feed_alts ps k n t)
-kept_alts ps k zero t g = kept_path (alt_of ps) k zero t g
+kept_alts ps k zero t g = kept_path (one_or_alt ps) k zero t g
 kept_alts ps k (suc n) (sign signs.Bar) g = good_rep (omega arith) (in_seq g)
-kept_alts ps k (suc n) t g = kept_path (alt_of ps) k (suc n) t g
+kept_alts ps k (suc n) t g = kept_path (one_or_alt ps) k (suc n) t g
 
 kept_sequence : (q : RawPath) (k : List Awaited) (n : ℕ) (t : Lexeme) → TakesRep k → IsKept (feed_sequence (put_path q k) n t)
 kept_sequence q _ n t (path_banged {k = k} g) = kept_sequence (NotPath q) k n t g
 kept_sequence q _ n t (in_seq {ls = ls} {ps = ps} {k = k} g) =
-    kept_cond (begins_rep t) (feed_rep (reps (ls ++ q ∷ []) ∷ alts ps ∷ k) n t) (feed_alts (ps ++ cat_of (ls ++ q ∷ []) ∷ []) k n t)
+    kept_cond (begins_rep t) (feed_rep (reps (ls ++ q ∷ []) ∷ alts ps ∷ k) n t) (feed_alts (ps ++ one_or_cat (ls ++ q ∷ []) ∷ []) k n t)
     (kept_rep (reps (ls ++ q ∷ []) ∷ alts ps ∷ k) n t (in_seq g))
-    (kept_alts (ps ++ cat_of (ls ++ q ∷ []) ∷ []) k n t g)
+    (kept_alts (ps ++ one_or_cat (ls ++ q ∷ []) ∷ []) k n t g)
 
 kept_prim : (p : RawPath) (b : Bool) (k : List Awaited) (n : ℕ) (t : Lexeme) → TakesRep k → IsKept (feed_prim p b k n t)
 kept_prim p b k n (sign signs.Star) g = good_prim g
@@ -364,10 +365,10 @@ pub record IsClosable (k : List Awaited) (n : ℕ) : Type 0 where
   pub more : List Lexeme
   pub spelled : AllByRecursion IsSpelled more
   pub policy : WrittenPolicy
-  pub goes : run more (at k n) ≡ Ok policy
+  pub goes : run more (awaiting k n) ≡ Ok policy
 
 by_lexeme : {k l : List Awaited} {n m : ℕ} (t : Lexeme) → IsSpelled t → feed_all k n t ≡ on l m → IsClosable l m → IsClosable k n
-by_lexeme t h e c = record { more = t ∷ c.more; spelled = (h, c.spelled); policy = c.policy; goes = ap (λ o. next o (suc (length c.more)) (λ u. run c.more u)) e ∙ c.goes }
+by_lexeme t h e c = record { more = t ∷ c.more; spelled = (h, c.spelled); policy = c.policy; goes = ap (λ o. next_step o (suc (length c.more)) (λ u. run c.more u)) e ∙ c.goes }
 
 true_of : (b : Bool) → T b → b ≡ true
 true_of true h = refl
@@ -383,7 +384,7 @@ closes_formula : (w : WrittenPolicy) (n : ℕ) → IsClosable (formula w ∷ [])
 closes_formula w n = record { more = []; spelled = tt; policy = w; goes = refl }
 
 closes_item : (h : Head) (n : ℕ) → IsClosable (item h ∷ []) n
-closes_item h n = by_lexeme (sign signs.CloseList) tt refl (closes_formula (listed h None) 0)
+closes_item h n = by_lexeme (sign signs.CloseList) tt refl (closes_formula (with_list h None) 0)
 
 closes_sets : (ss : List WrittenSet) (n : ℕ) → IsClosable (sets ss ∷ []) n
 closes_sets ss n = by_lexeme (sign signs.OpenList) tt refl (closes_item (record { sets = ss; items = [] }) 0)
@@ -405,49 +406,49 @@ record IsPathClosable (k : List Awaited) (n : ℕ) : Type 0 where
 closes_prim : (p : RawPath) (b : Bool) (k : List Awaited) (n : ℕ) → IsPathClosable (put_path (repeated b p) k) n → IsClosable (prim p b ∷ k) n
 closes_prim p b k n c = by_lexeme c.first c.spelled (c.no_star p b k ∙ c.goes) c.closes
 
-at_bracket : (ps : List RawPath) (k : List Awaited) (n : ℕ) → feed_alts ps (path_bracket ∷ k) n (sign signs.CloseGroup) ≡ on (prim (alt_of ps) false ∷ k) n
+at_bracket : (ps : List RawPath) (k : List Awaited) (n : ℕ) → feed_alts ps (path_bracket ∷ k) n (sign signs.CloseGroup) ≡ on (prim (one_or_alt ps) false ∷ k) n
 at_bracket ps k zero = refl
 at_bracket ps k (suc n) = refl
 
-at_end : (ps : List RawPath) (k : List Awaited) (n : ℕ) → feed_alts ps k n (sign signs.CloseList) ≡ feed_path (alt_of ps) k n (sign signs.CloseList)
+at_end : (ps : List RawPath) (k : List Awaited) (n : ℕ) → feed_alts ps k n (sign signs.CloseList) ≡ feed_path (one_or_alt ps) k n (sign signs.CloseList)
 at_end ps k zero = refl
 at_end ps k (suc n) = refl
 
 closes_rep : (q : RawPath) (k : List Awaited) (n : ℕ) → TakesRep k → IsPathClosable (put_path q k) n
 closes_rep q _ n (path_banged {k = k} g) = closes_rep (NotPath q) k n g
 closes_rep q _ n (in_seq {ls = ls} {ps = ps} (in_path_bracket {k = k} g)) =
-    let p = alt_of (ps ++ cat_of (ls ++ q ∷ []) ∷ []) in
+    let p = one_or_alt (ps ++ one_or_cat (ls ++ q ∷ []) ∷ []) in
     record {
       first = sign signs.CloseGroup;
       spelled = tt;
       no_star = λ p b l. refl;
       below = prim p false ∷ k;
       left = n;
-      goes = at_bracket (ps ++ cat_of (ls ++ q ∷ []) ∷ []) k n;
+      goes = at_bracket (ps ++ one_or_cat (ls ++ q ∷ []) ∷ []) k n;
       closes = closes_prim p false k n (closes_rep p k n g);
     }
 closes_rep q _ n (in_seq {ls = ls} {ps = ps} (of_statement {h = h} {p = pred})) =
-    let p = alt_of (ps ++ cat_of (ls ++ q ∷ []) ∷ []) in
+    let p = one_or_alt (ps ++ one_or_cat (ls ++ q ∷ []) ∷ []) in
     let o : Opened = record { heading = h; pred = pred; path = p; limits = [] } in
     record {
       first = sign signs.CloseList;
       spelled = tt;
       no_star = λ p b l. refl;
-      below = formula (listed (closed o) None) ∷ [];
+      below = formula (with_list (closed o) None) ∷ [];
       left = 0;
-      goes = at_end (ps ++ cat_of (ls ++ q ∷ []) ∷ []) (statement_path h pred ∷ []) n;
-      closes = closes_formula (listed (closed o) None) 0;
+      goes = at_end (ps ++ one_or_cat (ls ++ q ∷ []) ∷ []) (statement_path h pred ∷ []) n;
+      closes = closes_formula (with_list (closed o) None) 0;
     }
 closes_rep q _ n (in_seq {ls = ls} {ps = ps} (of_default {h = h})) =
-    let p = alt_of (ps ++ cat_of (ls ++ q ∷ []) ∷ []) in
+    let p = one_or_alt (ps ++ one_or_cat (ls ++ q ∷ []) ∷ []) in
     record {
       first = sign signs.CloseList;
       spelled = tt;
       no_star = λ p b l. refl;
-      below = formula (listed h (Some p)) ∷ [];
+      below = formula (with_list h (Some p)) ∷ [];
       left = 0;
-      goes = at_end (ps ++ cat_of (ls ++ q ∷ []) ∷ []) (default_path h ∷ []) n;
-      closes = closes_formula (listed h (Some p)) 0;
+      goes = at_end (ps ++ one_or_cat (ls ++ q ∷ []) ∷ []) (default_path h ∷ []) n;
+      closes = closes_formula (with_list h (Some p)) 0;
     }
 
 closes_path : (k : List Awaited) (n : ℕ) → 1 ≤ n → TakesRep k → IsClosable (rep ∷ k) n
@@ -461,7 +462,7 @@ closes_lit p _ n (banged {k = k} g) = closes_lit (Not p) k n g
 closes_lit p _ n (in_conj {ls = ls} {ps = ps} (in_bracket {k = k} g)) =
     by_lexeme (sign signs.CloseGroup) tt refl (closes_lit (any_of (ps ++ all_of (ls ++ p ∷ []) ∷ [])) k n g)
 closes_lit p _ n (in_conj {ls = ls} {ps = ps} (in_statement {h = h})) =
-    by_lexeme (sign signs.Arrow) tt refl (closes_path (reps [] ∷ alts [] ∷ statement_path h (any_of (ps ++ all_of (ls ++ p ∷ []) ∷ [])) ∷ []) 2048 (omega arith) (in_seq of_statement))
+    by_lexeme (sign signs.Arrow) tt refl (closes_path (reps [] ∷ alts [] ∷ statement_path h (any_of (ps ++ all_of (ls ++ p ∷ []) ∷ [])) ∷ []) MAX_PATH_NAMES (omega arith) (in_seq of_statement))
 
 closes_literal : (k : List Awaited) (n : ℕ) → TakesLit k → IsClosable (literal ∷ k) n
 closes_literal k n g = by_lexeme (word words.True) tt refl (closes_lit Yes k n g)
@@ -505,7 +506,7 @@ abbrev some_name : Lexeme
 some_name = name (codes "a") 0
 
 closes_each_id : (h : Head) (a b : List ℕ) (n : ℕ) → IsClosable (each_id h a b ∷ []) n
-closes_each_id h a b n = by_lexeme some_name name_a refl (closes_statement (record { head = h; pair = Some (a, b); id = codes "a" }) 4096)
+closes_each_id h a b n = by_lexeme some_name name_a refl (closes_statement (record { head = h; pair = Some (a, b); id = codes "a" }) MAX_TESTS)
 
 closes_inner : (h : Head) (a : List ℕ) (n : ℕ) → IsClosable (inner_set h a ∷ []) n
 closes_inner h a n = by_lexeme some_name name_a refl (closes_sign signs.CloseGroup (closes_sign signs.Colon (closes_each_id h a (codes "a") 0)))
@@ -514,7 +515,7 @@ closes_outer : (h : Head) (n : ℕ) → IsClosable (outer_set h ∷ []) n
 closes_outer h n = by_lexeme some_name name_a refl (closes_sign signs.Comma (closes_inner h (codes "a") 0))
 
 closes_limit_rest : (o : Opened) (n : ℕ) → IsClosable (limit_rest o ∷ []) n
-closes_limit_rest o n = by_lexeme (sign signs.CloseList) tt refl (closes_formula (listed (closed o) None) 0)
+closes_limit_rest o n = by_lexeme (sign signs.CloseList) tt refl (closes_formula (with_list (closed o) None) 0)
 
 closes_limit_rate : (o : Opened) (b : Bound) (n : ℕ) → IsClosable (limit_rate o b ∷ []) n
 closes_limit_rate o b n = by_lexeme (rate 0) rate_0 refl (closes_sign signs.CloseGroup (closes_limit_rest (with_limit o b 0) 0))
@@ -537,7 +538,7 @@ closes _ _ (good_word {s = s} {k = k} {n = n} g) = closes_word s (closes k n g)
 closes _ _ (good_name {k = k} {n = n} g) = by_lexeme some_name name_a refl (closes k n g)
 closes _ _ (good_literal {k = k} {n = n} g) = closes_literal k n g
 closes _ _ (good_lits {ls = ls} {ps = ps} {n = n} (in_bracket {k = k} g)) = by_lexeme (sign signs.CloseGroup) tt refl (closes_lit (any_of (ps ++ all_of ls ∷ [])) k n g)
-closes _ _ (good_lits {ls = ls} {ps = ps} (in_statement {h = h})) = by_lexeme (sign signs.Arrow) tt refl (closes_path (reps [] ∷ alts [] ∷ statement_path h (any_of (ps ++ all_of ls ∷ [])) ∷ []) 2048 (omega arith) (in_seq of_statement))
+closes _ _ (good_lits {ls = ls} {ps = ps} (in_statement {h = h})) = by_lexeme (sign signs.Arrow) tt refl (closes_path (reps [] ∷ alts [] ∷ statement_path h (any_of (ps ++ all_of ls ∷ [])) ∷ []) MAX_PATH_NAMES (omega arith) (in_seq of_statement))
 closes _ _ (good_second {a = a} {k = k} {n = n} e g) = closes_second a k n e g
 closes _ _ (good_value {f = f} {k = k} {n = n} g) = closes_value f k n g
 closes _ _ (good_rep {k = k} {n = n} h g) = closes_path k n h g

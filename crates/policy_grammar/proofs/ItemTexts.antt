@@ -4,14 +4,15 @@ use Rattle.std.specs.List.{AllByRecursion}
 use Rattle.std.proofs.lemmas.List.{map_push}
 use Rattle.merlin_text.specs.declared.token.Word.TheVariants as words
 use Rattle.merlin_text.specs.declared.token.Sign.TheVariants as signs
+use Rattle.policy_grammar.specs.declared.limits.TheConstants.{MAX_PATH_NAMES, MAX_TESTS}
 use Rattle.policy_grammar.specs.declared.written.Item.{Item}
 use Rattle.policy_grammar.specs.declared.written.RawPath.{RawPath}
 use Rattle.policy_grammar.specs.declared.written.WrittenSet.{WrittenSet}
 use Rattle.policy_grammar.specs.declared.written.WrittenPolicy.{WrittenPolicy}
 use Rattle.policy_grammar.specs.Lexemes.{Lexeme, name, word, sign}
-use Rattle.policy_grammar.specs.PathTexts.{Alts, spell_path, path_value, path_names, IsWithin as IsPathWithin}
-use Rattle.policy_grammar.specs.Grammar.{NamePhrase, spell_name, StatementPhrase, spell_statement, ItemPhrase, one, each, spell_item, ListPhrase, ended, open_end, with_default, semicolons, spell_end, spell_list, item_value, items_of, default_of, default_value, IsItemWithin, IsListWithin}
-use Rattle.policy_grammar.specs.Machine.{Head, this_sign, this_word, any_name, literal, lits, conjs, rep, reps, alts, whole_path, sets, item, outer_set, inner_set, each_id, statement_pred, default_path, formula, heading_of, with_item, listed, run, at}
+use Rattle.policy_grammar.specs.PathTexts.{Alts, spell_path, path_value, path_names, IsPathWithin}
+use Rattle.policy_grammar.specs.Grammar.{NamePhrase, spell_name, StatementPhrase, spell_statement, ItemPhrase, one, each, spell_item, ListPhrase, ended, open_end, with_default, semicolons, spell_end, spell_list, item_value, items_of, default_phrase, default_value, IsItemWithin, IsListWithin}
+use Rattle.policy_grammar.specs.Machine.{Head, this_sign, this_word, any_name, literal, lits, conjs, rep, reps, alts, whole_path, sets, item, outer_set, inner_set, each_id, statement_pred, default_path, formula, heading_of, with_item, with_list, run, awaiting}
 use Rattle.policy_grammar.proofs.SingleTexts.{took_sign, took_word, NameTaken, took_name}
 use Rattle.policy_grammar.proofs.PathPhrases.{path_complete, path_sound}
 use Rattle.policy_grammar.proofs.StatementTexts.{end_sign, after_item, statement_body, reads_body, BodyTaken, took_body}
@@ -28,36 +29,36 @@ with_more h i items = ap (λ xs. let g : Head = record { sets = h.sets; items = 
 
 -- the policy of a list after that head, with no terms yet
 abbrev pub list_value : Head → ListPhrase → WrittenPolicy
-list_value h l = listed (with_items h (map item_value (items_of l))) (default_value (default_of l))
+list_value h l = with_list (with_items h (map item_value (items_of l))) (default_value (default_phrase l))
 
 -- What is written is read.
 
 statement_spelled : (s : StatementPhrase) (y : List Lexeme) → spell_statement s ++ y ≡ spell_name s.id ∷ statement_body s.pred s.path s.limits y
 statement_spelled s y = simp append_assoc
 
-reads_item : (i : ItemPhrase) (h : Head) (b : Bool) (y : List Lexeme) → IsItemWithin i → run (spell_item i ++ sign (end_sign b) ∷ y) (at (item h ∷ []) 0) ≡ run y (after_item b (with_item h (item_value i)))
+reads_item : (i : ItemPhrase) (h : Head) (b : Bool) (y : List Lexeme) → IsItemWithin i → run (spell_item i ++ sign (end_sign b) ∷ y) (awaiting (item h ∷ []) 0) ≡ run y (after_item b (with_item h (item_value i)))
 reads_item (one s) h b y within =
-    ap (λ ts. run ts (at (item h ∷ []) 0)) (statement_spelled s (sign (end_sign b) ∷ y))
+    ap (λ ts. run ts (awaiting (item h ∷ []) 0)) (statement_spelled s (sign (end_sign b) ∷ y))
     ∙ reads_body s (heading_of h None s.id.text) b y within
 reads_item (each first second outer inner s) h b y within =
-    ap (λ ts. run ts (at (each_id h outer.text inner.text ∷ []) 0)) (statement_spelled s (sign (end_sign b) ∷ y))
+    ap (λ ts. run ts (awaiting (each_id h outer.text inner.text ∷ []) 0)) (statement_spelled s (sign (end_sign b) ∷ y))
     ∙ reads_body s (heading_of h (Some (outer.text, inner.text)) s.id.text) b y within
 
-reads_items : (items : List ItemPhrase) (h : Head) (y : List Lexeme) → AllByRecursion IsItemWithin items → run (semicolons items ++ y) (at (item h ∷ []) 0) ≡ run y (at (item (with_items h (map item_value items)) ∷ []) 0)
-reads_items [] h y within = ap (λ g. run y (at (item g ∷ []) 0)) (sym (with_none h))
+reads_items : (items : List ItemPhrase) (h : Head) (y : List Lexeme) → AllByRecursion IsItemWithin items → run (semicolons items ++ y) (awaiting (item h ∷ []) 0) ≡ run y (awaiting (item (with_items h (map item_value items)) ∷ []) 0)
+reads_items [] h y within = ap (λ g. run y (awaiting (item g ∷ []) 0)) (sym (with_none h))
 reads_items (i ∷ items) h y within =
-    ap (λ ts. run ts (at (item h ∷ []) 0)) (append_assoc (spell_item i) (sign signs.Semicolon ∷ semicolons items) y)
+    ap (λ ts. run ts (awaiting (item h ∷ []) 0)) (append_assoc (spell_item i) (sign signs.Semicolon ∷ semicolons items) y)
     ∙ reads_item i h true (semicolons items ++ y) within.0
     ∙ reads_items items (with_item h (item_value i)) y within.1
-    ∙ ap (λ g. run y (at (item g ∷ []) 0)) (with_more h (item_value i) (map item_value items))
+    ∙ ap (λ g. run y (awaiting (item g ∷ []) 0)) (with_more h (item_value i) (map item_value items))
 
-reads_default : (a : Alts) (h : Head) (b : Bool) (y : List Lexeme) → IsPathWithin a → run (word words.Default ∷ sign signs.Arrow ∷ (spell_path a ++ (spell_end b ++ y))) (at (item h ∷ []) 0) ≡ run y (at (formula (listed h (Some (path_value a))) ∷ []) 0)
+reads_default : (a : Alts) (h : Head) (b : Bool) (y : List Lexeme) → IsPathWithin a → run (word words.Default ∷ sign signs.Arrow ∷ (spell_path a ++ (spell_end b ++ y))) (awaiting (item h ∷ []) 0) ≡ run y (awaiting (formula (with_list h (Some (path_value a))) ∷ []) 0)
 reads_default a h b y within =
-    let names : 2048 ≡ path_names a + (2048 - path_names a) = omega (arith, within.names) in
-    ap (λ m. run (spell_path a ++ (spell_end b ++ y)) (at (rep ∷ reps [] ∷ alts [] ∷ default_path h ∷ []) m)) names
-    ∙ by b (2048 - path_names a)
+    let names : MAX_PATH_NAMES ≡ path_names a + (MAX_PATH_NAMES - path_names a) = omega (arith, within.names) in
+    ap (λ m. run (spell_path a ++ (spell_end b ++ y)) (awaiting (rep ∷ reps [] ∷ alts [] ∷ default_path h ∷ []) m)) names
+    ∙ by b (MAX_PATH_NAMES - path_names a)
   where
-    by : (c : Bool) (n : ℕ) → run (spell_path a ++ (spell_end c ++ y)) (at (rep ∷ reps [] ∷ alts [] ∷ default_path h ∷ []) (path_names a + n)) ≡ run y (at (formula (listed h (Some (path_value a))) ∷ []) 0)
+    by : (c : Bool) (n : ℕ) → run (spell_path a ++ (spell_end c ++ y)) (awaiting (rep ∷ reps [] ∷ alts [] ∷ default_path h ∷ []) (path_names a + n)) ≡ run y (awaiting (formula (with_list h (Some (path_value a))) ∷ []) 0)
     by true n = path_complete a (sign signs.Semicolon ∷ sign signs.CloseList ∷ y) (default_path h ∷ []) n refl (omega (arith, within.depth))
     by false n = path_complete a (sign signs.CloseList ∷ y) (default_path h ∷ []) n refl (omega (arith, within.depth))
 
@@ -71,21 +72,21 @@ open_spelled a b y = simp append_assoc
 default_spelled : (a b c y : List Lexeme) → ((a ++ word words.Default ∷ sign signs.Arrow ∷ b) ++ c) ++ y ≡ a ++ (word words.Default ∷ sign signs.Arrow ∷ (b ++ (c ++ y)))
 default_spelled a b c y = simp append_assoc
 
-pub reads_list : (l : ListPhrase) (ss : List WrittenSet) (y : List Lexeme) → IsListWithin l → run (spell_list l ++ y) (at (sets ss ∷ []) 0) ≡ run y (at (formula (list_value (record { sets = ss; items = [] }) l) ∷ []) 0)
+pub reads_list : (l : ListPhrase) (ss : List WrittenSet) (y : List Lexeme) → IsListWithin l → run (spell_list l ++ y) (awaiting (sets ss ∷ []) 0) ≡ run y (awaiting (formula (list_value (record { sets = ss; items = [] }) l) ∷ []) 0)
 reads_list (ended items) ss y within =
     let h : Head = record { sets = ss; items = [] } in
-    ap (λ ts. run ts (at (item h ∷ []) 0)) (append_assoc (semicolons items) (sign signs.CloseList ∷ []) y)
+    ap (λ ts. run ts (awaiting (item h ∷ []) 0)) (append_assoc (semicolons items) (sign signs.CloseList ∷ []) y)
     ∙ reads_items items h (sign signs.CloseList ∷ y) within.items
 reads_list (open_end items i) ss y within =
     let h : Head = record { sets = ss; items = [] } in
     let parts = all_front items i within.items in
-    ap (λ ts. run ts (at (item h ∷ []) 0)) (open_spelled (semicolons items) (spell_item i) y)
+    ap (λ ts. run ts (awaiting (item h ∷ []) 0)) (open_spelled (semicolons items) (spell_item i) y)
     ∙ reads_items items h (spell_item i ++ sign signs.CloseList ∷ y) parts.0
     ∙ reads_item i (with_items h (map item_value items)) false y parts.1
-    ∙ ap (λ xs. run y (at (formula (record { sets = ss; items = xs; default_path = None; terms = [] }) ∷ []) 0)) (sym (map_push item_value items i))
+    ∙ ap (λ xs. run y (awaiting (formula (record { sets = ss; items = xs; default_path = None; terms = [] }) ∷ []) 0)) (sym (map_push item_value items i))
 reads_list (with_default items a b) ss y within =
     let h : Head = record { sets = ss; items = [] } in
-    ap (λ ts. run ts (at (item h ∷ []) 0)) (default_spelled (semicolons items) (spell_path a) (spell_end b) y)
+    ap (λ ts. run ts (awaiting (item h ∷ []) 0)) (default_spelled (semicolons items) (spell_path a) (spell_end b) y)
     ∙ reads_items items h (word words.Default ∷ sign signs.Arrow ∷ (spell_path a ++ (spell_end b ++ y))) within.items
     ∙ reads_default a (with_items h (map item_value items)) b y (within.default a refl)
 
@@ -111,17 +112,17 @@ took_one id ts h w b =
       goes = b.goes;
     }
 
-took_outer : (ts : List Lexeme) (h : Head) (w : WrittenPolicy) → run ts (at (outer_set h ∷ []) 0) ≡ Ok w → NameTaken ts (λ a. at (this_sign signs.Comma ∷ inner_set h a ∷ []) 0) w
+took_outer : (ts : List Lexeme) (h : Head) (w : WrittenPolicy) → run ts (awaiting (outer_set h ∷ []) 0) ≡ Ok w → NameTaken ts (λ a. awaiting (this_sign signs.Comma ∷ inner_set h a ∷ []) 0) w
 took_outer [] h w e = cc
 took_outer (name a p ∷ ts) h w e = record { phrase = record { text = a; place = p }; rest = ts; is = refl; goes = e }
 took_outer (_ ∷ ts) h w e = cc
 
-took_inner : (ts : List Lexeme) (h : Head) (a : List ℕ) (w : WrittenPolicy) → run ts (at (inner_set h a ∷ []) 0) ≡ Ok w → NameTaken ts (λ b. at (this_sign signs.CloseGroup ∷ this_sign signs.Colon ∷ each_id h a b ∷ []) 0) w
+took_inner : (ts : List Lexeme) (h : Head) (a : List ℕ) (w : WrittenPolicy) → run ts (awaiting (inner_set h a ∷ []) 0) ≡ Ok w → NameTaken ts (λ b. awaiting (this_sign signs.CloseGroup ∷ this_sign signs.Colon ∷ each_id h a b ∷ []) 0) w
 took_inner [] h a w e = cc
 took_inner (name b p ∷ ts) h a w e = record { phrase = record { text = b; place = p }; rest = ts; is = refl; goes = e }
 took_inner (_ ∷ ts) h a w e = cc
 
-took_id : (ts : List Lexeme) (h : Head) (a b : List ℕ) (w : WrittenPolicy) → run ts (at (each_id h a b ∷ []) 0) ≡ Ok w → NameTaken ts (λ id. at (this_sign signs.Colon ∷ literal ∷ lits [] ∷ conjs [] ∷ statement_pred (heading_of h (Some (a, b)) id) ∷ []) 4096) w
+took_id : (ts : List Lexeme) (h : Head) (a b : List ℕ) (w : WrittenPolicy) → run ts (awaiting (each_id h a b ∷ []) 0) ≡ Ok w → NameTaken ts (λ id. awaiting (this_sign signs.Colon ∷ literal ∷ lits [] ∷ conjs [] ∷ statement_pred (heading_of h (Some (a, b)) id) ∷ []) MAX_TESTS) w
 took_id [] h a b w e = cc
 took_id (name id p ∷ ts) h a b w e = record { phrase = record { text = id; place = p }; rest = ts; is = refl; goes = e }
 took_id (_ ∷ ts) h a b w e = cc
@@ -132,9 +133,9 @@ record NamesTaken (ts : List Lexeme) (h : Head) (w : WrittenPolicy) : Type 0 whe
   second : NamePhrase
   rest : List Lexeme
   is : ts ≡ sign signs.OpenGroup ∷ spell_name first ∷ sign signs.Comma ∷ spell_name second ∷ sign signs.CloseGroup ∷ word words.In ∷ word words.Cross ∷ sign signs.OpenGroup ∷ rest
-  goes : run rest (at (outer_set h ∷ []) 0) ≡ Ok w
+  goes : run rest (awaiting (outer_set h ∷ []) 0) ≡ Ok w
 
-took_names : (ts : List Lexeme) (h : Head) (w : WrittenPolicy) → run ts (at (this_sign signs.OpenGroup ∷ any_name ∷ this_sign signs.Comma ∷ any_name ∷ this_sign signs.CloseGroup ∷ this_word words.In ∷ this_word words.Cross ∷ this_sign signs.OpenGroup ∷ outer_set h ∷ []) 0) ≡ Ok w → NamesTaken ts h w
+took_names : (ts : List Lexeme) (h : Head) (w : WrittenPolicy) → run ts (awaiting (this_sign signs.OpenGroup ∷ any_name ∷ this_sign signs.Comma ∷ any_name ∷ this_sign signs.CloseGroup ∷ this_word words.In ∷ this_word words.Cross ∷ this_sign signs.OpenGroup ∷ outer_set h ∷ []) 0) ≡ Ok w → NamesTaken ts h w
 took_names ts h w e =
     let a = took_sign signs.OpenGroup ts (any_name ∷ this_sign signs.Comma ∷ any_name ∷ this_sign signs.CloseGroup ∷ this_word words.In ∷ this_word words.Cross ∷ this_sign signs.OpenGroup ∷ outer_set h ∷ []) 0 w e in
     let b = took_name a.rest (this_sign signs.Comma ∷ any_name ∷ this_sign signs.CloseGroup ∷ this_word words.In ∷ this_word words.Cross ∷ this_sign signs.OpenGroup ∷ outer_set h ∷ []) 0 w a.goes in
@@ -162,9 +163,9 @@ record PairTaken (ts : List Lexeme) (h : Head) (w : WrittenPolicy) : Type 0 wher
   id : NamePhrase
   rest : List Lexeme
   is : ts ≡ spell_name outer ∷ sign signs.Comma ∷ spell_name inner ∷ sign signs.CloseGroup ∷ sign signs.Colon ∷ spell_name id ∷ rest
-  goes : run rest (at (this_sign signs.Colon ∷ literal ∷ lits [] ∷ conjs [] ∷ statement_pred (heading_of h (Some (outer.text, inner.text)) id.text) ∷ []) 4096) ≡ Ok w
+  goes : run rest (awaiting (this_sign signs.Colon ∷ literal ∷ lits [] ∷ conjs [] ∷ statement_pred (heading_of h (Some (outer.text, inner.text)) id.text) ∷ []) MAX_TESTS) ≡ Ok w
 
-took_pair : (ts : List Lexeme) (h : Head) (w : WrittenPolicy) → run ts (at (outer_set h ∷ []) 0) ≡ Ok w → PairTaken ts h w
+took_pair : (ts : List Lexeme) (h : Head) (w : WrittenPolicy) → run ts (awaiting (outer_set h ∷ []) 0) ≡ Ok w → PairTaken ts h w
 took_pair ts h w e =
     let a = took_outer ts h w e in
     let b = took_sign signs.Comma a.rest (inner_set h a.phrase.text ∷ []) 0 w a.goes in
@@ -199,7 +200,7 @@ took_each ts h w n p b =
       goes = b.goes;
     }
 
-took_foreach : (ts : List Lexeme) (h : Head) (w : WrittenPolicy) → run (word words.Foreach ∷ ts) (at (item h ∷ []) 0) ≡ Ok w → ItemTaken (word words.Foreach ∷ ts) h w
+took_foreach : (ts : List Lexeme) (h : Head) (w : WrittenPolicy) → run (word words.Foreach ∷ ts) (awaiting (item h ∷ []) 0) ≡ Ok w → ItemTaken (word words.Foreach ∷ ts) h w
 took_foreach ts h w e =
     let n = took_names ts h w e in
     let p = took_pair n.rest h w n.goes in
@@ -221,7 +222,7 @@ pub record ListTaken (ts : List Lexeme) (h : Head) (w : WrittenPolicy) : Type 0 
   pub rest : List Lexeme
   pub is : ts ≡ spell_inside phrase ++ rest
   pub within : IsListWithin phrase
-  pub goes : run rest (at (formula (list_value h phrase) ∷ []) 0) ≡ Ok w
+  pub goes : run rest (awaiting (formula (list_value h phrase) ∷ []) 0) ≡ Ok w
 
 -- one item more at the front
 abbrev cons_item : ItemPhrase → ListPhrase → ListPhrase
@@ -240,9 +241,9 @@ cons-within i (open_end items j) a b = record { items = (a, b.items); default = 
 cons-within i (with_default items path closed) a b = record { items = (a, b.items); default = b.default }
 
 cons-value : (i : ItemPhrase) (l : ListPhrase) (h : Head) → list_value (with_item h (item_value i)) l ≡ list_value h (cons_item i l)
-cons-value i (ended items) h = ap (λ g. listed g None) (with_more h (item_value i) (map item_value items))
-cons-value i (open_end items j) h = ap (λ g. listed g None) (with_more h (item_value i) (map item_value (items ++ j ∷ [])))
-cons-value i (with_default items path closed) h = ap (λ g. listed g (Some (path_value path))) (with_more h (item_value i) (map item_value items))
+cons-value i (ended items) h = ap (λ g. with_list g None) (with_more h (item_value i) (map item_value items))
+cons-value i (open_end items j) h = ap (λ g. with_list g None) (with_more h (item_value i) (map item_value (items ++ j ∷ [])))
+cons-value i (with_default items path closed) h = ap (λ g. with_list g (Some (path_value path))) (with_more h (item_value i) (map item_value items))
 
 cons_taken : (i : ItemPhrase) (ts : List Lexeme) (h : Head) (w : WrittenPolicy) (y : List Lexeme) → ts ≡ spell_item i ++ sign signs.Semicolon ∷ y → IsItemWithin i → ListTaken y (with_item h (item_value i)) w → ListTaken ts h w
 cons_taken i ts h w y e within more = record {
@@ -250,7 +251,7 @@ cons_taken i ts h w y e within more = record {
   rest = more.rest;
   is = e ∙ ap (λ xs. spell_item i ++ (sign signs.Semicolon ∷ xs)) more.is ∙ cons-spell i more.phrase more.rest;
   within = cons-within i more.phrase within more.within;
-  goes = subst (λ v. run more.rest (at (formula v ∷ []) 0) ≡ Ok w) (cons-value i more.phrase h) more.goes;
+  goes = subst (λ v. run more.rest (awaiting (formula v ∷ []) 0) ≡ Ok w) (cons-value i more.phrase h) more.goes;
 }
 
 some_inj : {A : Type 0} {x y : A} → Some x ≡ Some y → x ≡ y
@@ -259,7 +260,7 @@ some_inj e = cc
 none_some : {A : Type 0} {x : A} → (let o : Option A = None in o) ≡ Some x → ⊥
 none_some e = cc
 
-last_taken : (i : ItemPhrase) (ts : List Lexeme) (h : Head) (w : WrittenPolicy) (y : List Lexeme) → ts ≡ spell_item i ++ sign signs.CloseList ∷ y → IsItemWithin i → run y (at (formula (listed (with_item h (item_value i)) None) ∷ []) 0) ≡ Ok w → ListTaken ts h w
+last_taken : (i : ItemPhrase) (ts : List Lexeme) (h : Head) (w : WrittenPolicy) (y : List Lexeme) → ts ≡ spell_item i ++ sign signs.CloseList ∷ y → IsItemWithin i → run y (awaiting (formula (with_list (with_item h (item_value i)) None) ∷ []) 0) ≡ Ok w → ListTaken ts h w
 last_taken i ts h w y e within goes = record {
   phrase = open_end [] i;
   rest = y;
@@ -274,26 +275,26 @@ record DefaultTaken (ts : List Lexeme) (h : Head) (w : WrittenPolicy) : Type 0 w
   rest : List Lexeme
   is : ts ≡ sign signs.Arrow ∷ (spell_path path ++ (spell_end closed ++ rest))
   within : IsPathWithin path
-  goes : run rest (at (formula (listed h (Some (path_value path))) ∷ []) 0) ≡ Ok w
+  goes : run rest (awaiting (formula (with_list h (Some (path_value path))) ∷ []) 0) ≡ Ok w
 
 record EndTaken (ts : List Lexeme) (h : Head) (p : RawPath) (w : WrittenPolicy) : Type 0 where
   closed : Bool
   rest : List Lexeme
   is : ts ≡ spell_end closed ++ rest
-  goes : run rest (at (formula (listed h (Some p)) ∷ []) 0) ≡ Ok w
+  goes : run rest (awaiting (formula (with_list h (Some p)) ∷ []) 0) ≡ Ok w
 
-took_end : (ts : List Lexeme) (h : Head) (p : RawPath) (n : ℕ) (w : WrittenPolicy) → run ts (at (whole_path p ∷ default_path h ∷ []) n) ≡ Ok w → EndTaken ts h p w
+took_end : (ts : List Lexeme) (h : Head) (p : RawPath) (n : ℕ) (w : WrittenPolicy) → run ts (awaiting (whole_path p ∷ default_path h ∷ []) n) ≡ Ok w → EndTaken ts h p w
 took_end [] h p n w e = cc
 took_end (sign signs.CloseList ∷ ts) h p n w e = record { closed = false; rest = ts; is = refl; goes = e }
 took_end (sign signs.Semicolon ∷ ts) h p n w e =
-    let close = took_sign signs.CloseList ts (formula (listed h (Some p)) ∷ []) 0 w e in
+    let close = took_sign signs.CloseList ts (formula (with_list h (Some p)) ∷ []) 0 w e in
     record { closed = true; rest = close.rest; is = ap (λ xs. sign signs.Semicolon ∷ xs) close.is; goes = close.goes }
 took_end (_ ∷ ts) h p n w e = cc
 
-took_default : (ts : List Lexeme) (h : Head) (w : WrittenPolicy) → run ts (at (this_sign signs.Arrow ∷ rep ∷ reps [] ∷ alts [] ∷ default_path h ∷ []) 2048) ≡ Ok w → DefaultTaken ts h w
+took_default : (ts : List Lexeme) (h : Head) (w : WrittenPolicy) → run ts (awaiting (this_sign signs.Arrow ∷ rep ∷ reps [] ∷ alts [] ∷ default_path h ∷ []) MAX_PATH_NAMES) ≡ Ok w → DefaultTaken ts h w
 took_default ts h w e =
-    let arrow = took_sign signs.Arrow ts (rep ∷ reps [] ∷ alts [] ∷ default_path h ∷ []) 2048 w e in
-    let p = path_sound arrow.rest (default_path h ∷ []) 2048 w (omega arith) arrow.goes in
+    let arrow = took_sign signs.Arrow ts (rep ∷ reps [] ∷ alts [] ∷ default_path h ∷ []) MAX_PATH_NAMES w e in
+    let p = path_sound arrow.rest (default_path h ∷ []) MAX_PATH_NAMES w (omega arith) arrow.goes in
     let end = took_end p.rest h (path_value p.tree) p.spare w p.goes in
     record {
       path = p.tree;
@@ -313,19 +314,19 @@ default_taken ts h w d = record {
   rest = d.rest;
   is = ap (λ xs. word words.Default ∷ xs) (d.is ∙ ap (λ xs. sign signs.Arrow ∷ xs) (sym (append_assoc (spell_path d.path) (spell_end d.closed) d.rest)));
   within = record { items = tt; default = λ path e. subst IsPathWithin (some_inj e) d.within };
-  goes = subst (λ g. run d.rest (at (formula (listed g (Some (path_value d.path))) ∷ []) 0) ≡ Ok w) (sym (with_none h)) d.goes;
+  goes = subst (λ g. run d.rest (awaiting (formula (with_list g (Some (path_value d.path))) ∷ []) 0) ≡ Ok w) (sym (with_none h)) d.goes;
 }
 
-ended_taken : (ts : List Lexeme) (h : Head) (w : WrittenPolicy) → run ts (at (formula (listed h None) ∷ []) 0) ≡ Ok w → ListTaken (sign signs.CloseList ∷ ts) h w
+ended_taken : (ts : List Lexeme) (h : Head) (w : WrittenPolicy) → run ts (awaiting (formula (with_list h None) ∷ []) 0) ≡ Ok w → ListTaken (sign signs.CloseList ∷ ts) h w
 ended_taken ts h w e = record {
   phrase = ended [];
   rest = ts;
   is = refl;
   within = record { items = tt; default = λ path n. absurd (none_some n) };
-  goes = subst (λ g. run ts (at (formula (listed g None) ∷ []) 0) ≡ Ok w) (sym (with_none h)) e;
+  goes = subst (λ g. run ts (awaiting (formula (with_list g None) ∷ []) 0) ≡ Ok w) (sym (with_none h)) e;
 }
 
-item_taken : (ts : List Lexeme) (h : Head) (w : WrittenPolicy) (i : ItemTaken ts h w) → (run i.rest (at (item (with_item h (item_value i.phrase)) ∷ []) 0) ≡ Ok w → ListTaken i.rest (with_item h (item_value i.phrase)) w) → ListTaken ts h w
+item_taken : (ts : List Lexeme) (h : Head) (w : WrittenPolicy) (i : ItemTaken ts h w) → (run i.rest (awaiting (item (with_item h (item_value i.phrase)) ∷ []) 0) ≡ Ok w → ListTaken i.rest (with_item h (item_value i.phrase)) w) → ListTaken ts h w
 item_taken ts h w i more = by i.closes i.is i.goes
   where
     by : (c : Bool) → ts ≡ spell_item i.phrase ++ sign (end_sign c) ∷ i.rest → run i.rest (after_item c (with_item h (item_value i.phrase))) ≡ Ok w → ListTaken ts h w
@@ -335,7 +336,7 @@ item_taken ts h w i more = by i.closes i.is i.goes
 shorter : (ts : List Lexeme) (h : Head) (w : WrittenPolicy) (i : ItemTaken ts h w) → suc (length i.rest) ≤ length ts
 shorter ts h w i = omega (arith, ap length i.is, length-append (spell_item i.phrase) (sign (end_sign i.closes) ∷ i.rest))
 
-pub took_list : (bound : ℕ) (ts : List Lexeme) (h : Head) (w : WrittenPolicy) → length ts ≤ bound → run ts (at (item h ∷ []) 0) ≡ Ok w → ListTaken ts h w
+pub took_list : (bound : ℕ) (ts : List Lexeme) (h : Head) (w : WrittenPolicy) → length ts ≤ bound → run ts (awaiting (item h ∷ []) 0) ≡ Ok w → ListTaken ts h w
 took_list bound [] h w l e = cc
 took_list zero (t ∷ ts) h w l e = absurd (omega arith)
 took_list (suc bound) (name a p ∷ ts) h w l e =

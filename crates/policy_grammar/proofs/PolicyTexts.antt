@@ -4,22 +4,22 @@ use Rattle.merlin_text.specs.declared.token.Sign.TheVariants as signs
 use Rattle.policy_grammar.specs.declared.written.WrittenPolicy.{WrittenPolicy}
 use Rattle.policy_grammar.specs.Lexemes.{Lexeme, sign}
 use Rattle.policy_grammar.specs.Grammar.{PolicyPhrase, spell_sets, spell_list, spell_terms, spell_policy, set_value, policy_value, IsListWithin, StandsFor}
-use Rattle.policy_grammar.specs.Machine.{Head, run, start}
+use Rattle.policy_grammar.specs.Machine.{Head, run, first_state}
 use Rattle.policy_grammar.proofs.SetTexts.{reads_sets, SetsTaken, took_sets}
 use Rattle.policy_grammar.proofs.TermTexts.{reads_terms, TermsTaken, took_terms}
 use Rattle.policy_grammar.proofs.ItemTexts.{list_value, reads_list, spell_inside, inside, ListTaken, took_list}
 
-reads_policy : (p : PolicyPhrase) → IsListWithin p.list → run (spell_policy p) start ≡ Ok (policy_value p)
+reads_policy : (p : PolicyPhrase) → IsListWithin p.list → run (spell_policy p) first_state ≡ Ok (policy_value p)
 reads_policy p within =
-    ap (λ ts. run ts start) (append_assoc (spell_sets p.sets) (spell_list p.list) (spell_terms p.terms))
+    ap (λ ts. run ts first_state) (append_assoc (spell_sets p.sets) (spell_list p.list) (spell_terms p.terms))
     ∙ reads_sets p.sets [] (spell_list p.list ++ spell_terms p.terms)
     ∙ reads_list p.list (map set_value p.sets) (spell_terms p.terms) within
     ∙ reads_terms p.terms (list_value (record { sets = map set_value p.sets; items = [] }) p.list)
 
 -- What stands for a policy is read as that policy.
-pub complete : (ls : List Lexeme) (w : WrittenPolicy) → StandsFor ls w → run ls start ≡ Ok w
+pub complete : (ls : List Lexeme) (w : WrittenPolicy) → StandsFor ls w → run ls first_state ≡ Ok w
 complete ls w s =
-    ap (λ ts. run ts start) (sym s.spelled)
+    ap (λ ts. run ts first_state) (sym s.spelled)
     ∙ reads_policy s.phrase s.within
     ∙ ap (λ v. let r : Result WrittenPolicy ℕ = Ok v in r) s.is
 
@@ -34,7 +34,7 @@ stands ls w front middle end = record {
 }
 
 -- What is read as a policy stands for it.
-pub sound : (ls : List Lexeme) (w : WrittenPolicy) → run ls start ≡ Ok w → StandsFor ls w
+pub sound : (ls : List Lexeme) (w : WrittenPolicy) → run ls first_state ≡ Ok w → StandsFor ls w
 sound ls w e =
     let front = took_sets (length ls) ls [] w (omega arith) e in
     let h : Head = record { sets = map set_value front.phrases; items = [] } in

@@ -7,7 +7,7 @@ use Rattle.merlin_text.specs.declared.token.Sign.TheVariants as signs
 use Rattle.policy_grammar.specs.declared.written.WrittenPolicy.{WrittenPolicy}
 use Rattle.policy_grammar.specs.Lexemes.{Lexeme, name, word, sign, rate, separated}
 use Rattle.policy_grammar.specs.Grammar.{NamePhrase, spell_name}
-use Rattle.policy_grammar.specs.Machine.{Awaited, this_sign, this_word, any_name, State, sign_number, word_number, on, next, run, at}
+use Rattle.policy_grammar.specs.Machine.{Awaited, this_sign, this_word, any_name, State, sign_number, word_number, on, next_step, run, awaiting}
 
 pub ok_inj : {A B : Type 0} {x y : A} → (let r : Result A B = Ok x in r) ≡ Ok y → x ≡ y
 ok_inj e = cc
@@ -68,20 +68,20 @@ pub record Taken (t : Lexeme) (ts : List Lexeme) (s : State) (w : WrittenPolicy)
   pub is : ts ≡ t ∷ rest
   pub goes : run rest s ≡ Ok w
 
-pub took_sign : (s : Sign) (ts : List Lexeme) (k : List Awaited) (n : ℕ) (w : WrittenPolicy) → run ts (at (this_sign s ∷ k) n) ≡ Ok w → Taken (sign s) ts (at k n) w
+pub took_sign : (s : Sign) (ts : List Lexeme) (k : List Awaited) (n : ℕ) (w : WrittenPolicy) → run ts (awaiting (this_sign s ∷ k) n) ≡ Ok w → Taken (sign s) ts (awaiting k n) w
 took_sign s [] k n w e = cc
 took_sign s (sign t ∷ ts) k n w e = by (sign_number s == sign_number t) refl e
   where
-    by : (b : Bool) → (sign_number s == sign_number t) ≡ b → next (if b then on k n else None) (suc (length ts)) (λ u. run ts u) ≡ Ok w → Taken (sign s) (sign t ∷ ts) (at k n) w
+    by : (b : Bool) → (sign_number s == sign_number t) ≡ b → next_step (if b then on k n else None) (suc (length ts)) (λ u. run ts u) ≡ Ok w → Taken (sign s) (sign t ∷ ts) (awaiting k n) w
     by true q e = record { rest = ts; is = ap (λ x. sign x ∷ ts) (sym (same_sign s t (eqb-true (sign_number s) (sign_number t) q))); goes = e }
     by false q e = cc
 took_sign s (_ ∷ ts) k n w e = cc
 
-pub took_word : (v : Word) (ts : List Lexeme) (k : List Awaited) (n : ℕ) (w : WrittenPolicy) → run ts (at (this_word v ∷ k) n) ≡ Ok w → Taken (word v) ts (at k n) w
+pub took_word : (v : Word) (ts : List Lexeme) (k : List Awaited) (n : ℕ) (w : WrittenPolicy) → run ts (awaiting (this_word v ∷ k) n) ≡ Ok w → Taken (word v) ts (awaiting k n) w
 took_word v [] k n w e = cc
 took_word v (word t ∷ ts) k n w e = by (word_number v == word_number t) refl e
   where
-    by : (b : Bool) → (word_number v == word_number t) ≡ b → next (if b then on k n else None) (suc (length ts)) (λ u. run ts u) ≡ Ok w → Taken (word v) (word t ∷ ts) (at k n) w
+    by : (b : Bool) → (word_number v == word_number t) ≡ b → next_step (if b then on k n else None) (suc (length ts)) (λ u. run ts u) ≡ Ok w → Taken (word v) (word t ∷ ts) (awaiting k n) w
     by true q e = record { rest = ts; is = ap (λ x. word x ∷ ts) (sym (same_word v t (eqb-true (word_number v) (word_number t) q))); goes = e }
     by false q e = cc
 took_word v (_ ∷ ts) k n w e = cc
@@ -93,7 +93,7 @@ pub record NameTaken (ts : List Lexeme) (s : List ℕ → State) (w : WrittenPol
   pub is : ts ≡ spell_name phrase ∷ rest
   pub goes : run rest (s phrase.text) ≡ Ok w
 
-pub took_name : (ts : List Lexeme) (k : List Awaited) (n : ℕ) (w : WrittenPolicy) → run ts (at (any_name ∷ k) n) ≡ Ok w → NameTaken ts (λ _. at k n) w
+pub took_name : (ts : List Lexeme) (k : List Awaited) (n : ℕ) (w : WrittenPolicy) → run ts (awaiting (any_name ∷ k) n) ≡ Ok w → NameTaken ts (λ _. awaiting k n) w
 took_name [] k n w e = cc
 took_name (name a p ∷ ts) k n w e = record { phrase = record { text = a; place = p }; rest = ts; is = refl; goes = e }
 took_name (_ ∷ ts) k n w e = cc

@@ -2,11 +2,9 @@
 use Rattle.std.specs.Prelude.{ℕ, ◌≡◌, ◌≤◌, ◌<◌, suc, Bool, true, false, List, [], ◌∷◌, ◌++◌, Option, Some, None, map, length, take}
 use Rattle.std.specs.List.{AllByRecursion}
 use Rattle.merlin_model.specs.declared.policy.Bound.{Bound}
-use Rattle.merlin_model.specs.declared.policy.Bound.TheVariants.{Max, Min}
 use Rattle.merlin_model.specs.declared.policy.Part.{Part}
 use Rattle.merlin_model.specs.declared.policy.Part.TheVariants.{Id, Constant}
 use Rattle.merlin_model.specs.declared.policy.Term.{Term}
-use Rattle.merlin_text.specs.declared.token.Word.{Word}
 use Rattle.merlin_text.specs.declared.token.Word.TheVariants as words
 use Rattle.merlin_text.specs.declared.token.Sign.TheVariants as signs
 use Rattle.policy_grammar.specs.declared.written.Literal.{Literal}
@@ -18,9 +16,9 @@ use Rattle.policy_grammar.specs.declared.written.WrittenStatement.{WrittenStatem
 use Rattle.policy_grammar.specs.declared.written.Item.{Item}
 use Rattle.policy_grammar.specs.declared.written.Item.TheVariants.{One, ForEach}
 use Rattle.policy_grammar.specs.declared.written.WrittenPolicy.{WrittenPolicy}
-use Rattle.policy_grammar.specs.Lexemes.{Lexeme, IsSpelled, name, word, sign, rate, mac, ip, separated}
-use Rattle.policy_grammar.specs.Predicates.{Disj, spell_pred, pred_value, IsWithin as IsPredWithin}
-use Rattle.policy_grammar.specs.PathTexts.{Alts, spell_path, path_value, IsWithin as IsPathWithin}
+use Rattle.policy_grammar.specs.Lexemes.{Lexeme, IsSpelled, name, word, sign, rate, mac, ip, bound_word, separated}
+use Rattle.policy_grammar.specs.Predicates.{Disj, spell_pred, pred_value, IsPredWithin}
+use Rattle.policy_grammar.specs.PathTexts.{Alts, spell_path, path_value, IsPathWithin}
 
 -- a name and the byte at which it starts
 pub record NamePhrase : Type 0 where
@@ -46,10 +44,6 @@ spell_set s = spell_name s.name ∷ sign signs.Becomes ∷ sign signs.OpenSet �
 abbrev pub spell_sets : List SetPhrase → List Lexeme
 spell_sets [] = []
 spell_sets (s ∷ ss) = spell_set s ++ spell_sets ss
-
-abbrev pub bound_word : Bound → Word
-bound_word Max = words.Max
-bound_word Min = words.Min
 
 -- lim := ( 'max' | 'min' ) '(' Rate ')'
 abbrev pub spell_limit : Limit → List Lexeme
@@ -164,10 +158,10 @@ items_of (ended items) = items
 items_of (open_end items i) = items ++ i ∷ []
 items_of (with_default items _ _) = items
 
-abbrev pub default_of : ListPhrase → Option Alts
-default_of (ended _) = None
-default_of (open_end _ _) = None
-default_of (with_default _ path _) = Some path
+abbrev pub default_phrase : ListPhrase → Option Alts
+default_phrase (ended _) = None
+default_phrase (open_end _ _) = None
+default_phrase (with_default _ path _) = Some path
 
 abbrev pub summand_value : Summand → Part
 summand_value (id n) = Id n.text
@@ -184,7 +178,7 @@ abbrev pub policy_value : PolicyPhrase → WrittenPolicy
 policy_value p = record {
   sets = map set_value p.sets;
   items = map item_value (items_of p.list);
-  default_path = default_value (default_of p.list);
+  default_path = default_value (default_phrase p.list);
   terms = map term_value p.terms;
 }
 
@@ -200,7 +194,7 @@ IsItemWithin (each _ _ _ _ s) = IsStatementWithin s
 
 pub record IsListWithin (l : ListPhrase) : Type 0 where
   pub items : AllByRecursion IsItemWithin (items_of l)
-  pub default : (path : Alts) → default_of l ≡ Some path → IsPathWithin path
+  pub default : (path : Alts) → default_phrase l ≡ Some path → IsPathWithin path
 
 -- The lexemes stand for the policy.
 pub record StandsFor (lexemes : List Lexeme) (policy : WrittenPolicy) : Type 0 where
@@ -210,7 +204,7 @@ pub record StandsFor (lexemes : List Lexeme) (policy : WrittenPolicy) : Type 0 w
   pub within : IsListWithin phrase.list
 
 -- The lexemes begin some policy: with some more, which texts can have, they are one.
-pub record Begins (lexemes : List Lexeme) : Type 0 where
+pub record BeginsPolicy (lexemes : List Lexeme) : Type 0 where
   pub more : List Lexeme
   pub spelled : AllByRecursion IsSpelled more
   pub policy : WrittenPolicy
@@ -219,6 +213,6 @@ pub record Begins (lexemes : List Lexeme) : Type 0 where
 -- No policy goes on at that lexeme: those before it begin one, with it, or with the end, they begin none.
 pub record IsFaultAt (lexemes : List Lexeme) (at : ℕ) : Type 0 where
   pub within : at ≤ length lexemes
-  pub before : Begins (take at lexemes)
-  pub token : at < length lexemes → ¬ Begins (take (suc at) lexemes)
+  pub before : BeginsPolicy (take at lexemes)
+  pub token : at < length lexemes → ¬ BeginsPolicy (take (suc at) lexemes)
   pub end : at ≡ length lexemes → (policy : WrittenPolicy) → ¬ StandsFor lexemes policy

@@ -10,6 +10,7 @@ use Rattle.merlin_text.specs.declared.token.Word.{Word}
 use Rattle.merlin_text.specs.declared.token.Word.TheVariants as words
 use Rattle.merlin_text.specs.declared.token.Sign.{Sign}
 use Rattle.merlin_text.specs.declared.token.Sign.TheVariants as signs
+use Rattle.policy_grammar.specs.declared.limits.TheConstants.{MAX_NESTING, MAX_PATH_NAMES, MAX_TESTS}
 use Rattle.policy_grammar.specs.declared.written.Literal.{Literal}
 use Rattle.policy_grammar.specs.declared.written.Literal.TheVariants.{Mac, Ip}
 use Rattle.policy_grammar.specs.declared.written.Limit.{Limit}
@@ -23,7 +24,7 @@ use Rattle.policy_grammar.specs.declared.written.Item.TheVariants.{One, ForEach}
 use Rattle.policy_grammar.specs.declared.written.WrittenPolicy.{WrittenPolicy}
 use Rattle.policy_grammar.specs.Lexemes.{Lexeme, name, word, sign, rate, mac, ip}
 use Rattle.policy_grammar.specs.Predicates.{all_of, any_of, test_of}
-use Rattle.policy_grammar.specs.PathTexts.{cat_of, alt_of}
+use Rattle.policy_grammar.specs.PathTexts.{one_or_cat, one_or_alt}
 
 -- what was read before an item of the list: the sets and the items so far
 pub record Head : Type 0 where
@@ -181,7 +182,7 @@ then_some (Some x) f = f x
 -- a whole predicate ends its bracket, or stands before the arrow
 abbrev pub feed_pred : Pred → List Awaited → ℕ → Lexeme → Option State
 feed_pred p (bracket ∷ k) n (sign signs.CloseGroup) = on (put p k) n
-feed_pred p (statement_pred h ∷ k) n (sign signs.Arrow) = on (rep ∷ reps [] ∷ alts [] ∷ statement_path h p ∷ k) 2048
+feed_pred p (statement_pred h ∷ k) n (sign signs.Arrow) = on (rep ∷ reps [] ∷ alts [] ∷ statement_path h p ∷ k) MAX_PATH_NAMES
 feed_pred _ _ _ _ = None
 
 -- after a conjunction `or` goes on; all else ends the predicate
@@ -196,8 +197,8 @@ feed_lits ls (conjs ps ∷ k) n t = feed_conjs (ps ++ all_of ls ∷ []) k n t
 feed_lits _ _ _ _ = None
 
 abbrev pub feed_literal : List Awaited → ℕ → Lexeme → Option State
-feed_literal k n (sign signs.Bang) = if nat_lt (opens k) 128 then on (literal ∷ negation ∷ k) n else None
-feed_literal k n (sign signs.OpenGroup) = if nat_lt (opens k) 128 then on (literal ∷ lits [] ∷ conjs [] ∷ bracket ∷ k) n else None
+feed_literal k n (sign signs.Bang) = if nat_lt (opens k) MAX_NESTING then on (literal ∷ negation ∷ k) n else None
+feed_literal k n (sign signs.OpenGroup) = if nat_lt (opens k) MAX_NESTING then on (literal ∷ lits [] ∷ conjs [] ∷ bracket ∷ k) n else None
 feed_literal k n (word words.True) = on (put Yes k) n
 feed_literal k n (word words.False) = on (put No k) n
 feed_literal k (suc n) (name a _) = if is_first a then on (this_sign signs.Dot ∷ second a ∷ k) n else None
@@ -224,8 +225,8 @@ repeated false p = p
 -- each of these needs one more name or dot
 abbrev pub feed_rep : List Awaited → ℕ → Lexeme → Option State
 feed_rep k zero t = None
-feed_rep k (suc n) (sign signs.Bang) = if nat_lt (opens k) 128 then on (rep ∷ path_negation ∷ k) (suc n) else None
-feed_rep k (suc n) (sign signs.OpenGroup) = if nat_lt (opens k) 128 then on (rep ∷ reps [] ∷ alts [] ∷ path_bracket ∷ k) (suc n) else None
+feed_rep k (suc n) (sign signs.Bang) = if nat_lt (opens k) MAX_NESTING then on (rep ∷ path_negation ∷ k) (suc n) else None
+feed_rep k (suc n) (sign signs.OpenGroup) = if nat_lt (opens k) MAX_NESTING then on (rep ∷ reps [] ∷ alts [] ∷ path_bracket ∷ k) (suc n) else None
 feed_rep k (suc n) (sign signs.Dot) = on (prim Dot false ∷ k) n
 feed_rep k (suc n) (name a at) = on (prim (Named a at) false ∷ k) n
 feed_rep k (suc n) t = None
@@ -244,13 +245,13 @@ item_from (Some pair) s = ForEach pair.0 pair.1 s
 abbrev pub closed : Opened → Head
 closed o = with_item o.heading.head (item_from o.heading.pair (written_of o))
 
-abbrev pub listed : Head → Option RawPath → WrittenPolicy
-listed h default = record { sets = h.sets; items = h.items; default_path = default; terms = [] }
+abbrev pub with_list : Head → Option RawPath → WrittenPolicy
+with_list h default = record { sets = h.sets; items = h.items; default_path = default; terms = [] }
 
 -- after a statement's path, or after its limits
 abbrev pub feed_end : Opened → List Awaited → Lexeme → Option State
 feed_end o k (sign signs.Semicolon) = on (item (closed o) ∷ k) 0
-feed_end o k (sign signs.CloseList) = on (formula (listed (closed o) None) ∷ k) 0
+feed_end o k (sign signs.CloseList) = on (formula (with_list (closed o) None) ∷ k) 0
 feed_end _ _ _ = None
 
 abbrev pub feed_opened : Opened → List Awaited → Lexeme → Option State
@@ -261,13 +262,13 @@ feed_opened o k t = feed_end o k t
 abbrev pub feed_path : RawPath → List Awaited → ℕ → Lexeme → Option State
 feed_path p (path_bracket ∷ k) n (sign signs.CloseGroup) = on (prim p false ∷ k) n
 feed_path p (statement_path h pred ∷ k) n t = feed_opened (record { heading = h; pred = pred; path = p; limits = [] }) k t
-feed_path p (default_path h ∷ k) n (sign signs.Semicolon) = on (this_sign signs.CloseList ∷ formula (listed h (Some p)) ∷ k) 0
-feed_path p (default_path h ∷ k) n (sign signs.CloseList) = on (formula (listed h (Some p)) ∷ k) 0
+feed_path p (default_path h ∷ k) n (sign signs.Semicolon) = on (this_sign signs.CloseList ∷ formula (with_list h (Some p)) ∷ k) 0
+feed_path p (default_path h ∷ k) n (sign signs.CloseList) = on (formula (with_list h (Some p)) ∷ k) 0
 feed_path _ _ _ _ = None
 
 abbrev pub feed_alts : List RawPath → List Awaited → ℕ → Lexeme → Option State
 feed_alts ps k (suc n) (sign signs.Bar) = on (rep ∷ reps [] ∷ alts ps ∷ k) (suc n)
-feed_alts ps k n t = feed_path (alt_of ps) k n t
+feed_alts ps k n t = feed_path (one_or_alt ps) k n t
 
 -- whether a rep begins so
 abbrev pub begins_rep : Lexeme → Bool
@@ -278,7 +279,7 @@ begins_rep (name _ _) = true
 begins_rep _ = false
 
 abbrev pub feed_reps : List RawPath → List Awaited → ℕ → Lexeme → Option State
-feed_reps ls (alts ps ∷ k) n t = if begins_rep t then feed_rep (reps ls ∷ alts ps ∷ k) n t else feed_alts (ps ++ cat_of ls ∷ []) k n t
+feed_reps ls (alts ps ∷ k) n t = if begins_rep t then feed_rep (reps ls ∷ alts ps ∷ k) n t else feed_alts (ps ++ one_or_cat ls ∷ []) k n t
 feed_reps _ _ _ _ = None
 
 -- what follows a path that is put: the sequence that it stands in
@@ -320,15 +321,15 @@ abbrev pub heading_of : Head → Option (List ℕ × List ℕ) → List ℕ → 
 heading_of h pair id = record { head = h; pair = pair; id = id }
 
 abbrev pub statement_from : Heading → List Awaited → Option State
-statement_from h k = on (this_sign signs.Colon ∷ literal ∷ lits [] ∷ conjs [] ∷ statement_pred h ∷ k) 4096
+statement_from h k = on (this_sign signs.Colon ∷ literal ∷ lits [] ∷ conjs [] ∷ statement_pred h ∷ k) MAX_TESTS
 
 abbrev pub feed_item : Head → List Awaited → Lexeme → Option State
 feed_item h k (name id _) = statement_from (heading_of h None id) k
 feed_item h k (word words.Foreach) =
     on (this_sign signs.OpenGroup ∷ any_name ∷ this_sign signs.Comma ∷ any_name ∷ this_sign signs.CloseGroup
     ∷ this_word words.In ∷ this_word words.Cross ∷ this_sign signs.OpenGroup ∷ outer_set h ∷ k) 0
-feed_item h k (word words.Default) = on (this_sign signs.Arrow ∷ rep ∷ reps [] ∷ alts [] ∷ default_path h ∷ k) 2048
-feed_item h k (sign signs.CloseList) = on (formula (listed h None) ∷ k) 0
+feed_item h k (word words.Default) = on (this_sign signs.Arrow ∷ rep ∷ reps [] ∷ alts [] ∷ default_path h ∷ k) MAX_PATH_NAMES
+feed_item h k (sign signs.CloseList) = on (formula (with_list h None) ∷ k) 0
 feed_item _ _ _ = None
 
 abbrev pub feed_outer : Head → List Awaited → Lexeme → Option State
@@ -470,17 +471,17 @@ finish_all _ = None
 abbrev pub finish : State → Option WrittenPolicy
 finish s = finish_all s.awaited
 
-abbrev pub next : Option State → ℕ → (State → Result WrittenPolicy ℕ) → Result WrittenPolicy ℕ
-next None n f = Err n
-next (Some s) n f = f s
+abbrev pub next_step : Option State → ℕ → (State → Result WrittenPolicy ℕ) → Result WrittenPolicy ℕ
+next_step None n f = Err n
+next_step (Some s) n f = f s
 
 -- what the lexemes stand for, or how many are left where nothing goes on
 abbrev pub run : List Lexeme → State → Result WrittenPolicy ℕ
 run [] s = ok_or (finish s) 0
-run (t ∷ ts) s = next (feed s t) (suc (length ts)) (λ u. run ts u)
+run (t ∷ ts) s = next_step (feed s t) (suc (length ts)) (λ u. run ts u)
 
-abbrev pub at : List Awaited → ℕ → State
-at k n = record { awaited = k; left = n }
+abbrev pub awaiting : List Awaited → ℕ → State
+awaiting k n = record { awaited = k; left = n }
 
-abbrev pub start : State
-start = at (sets [] ∷ []) 0
+abbrev pub first_state : State
+first_state = awaiting (sets [] ∷ []) 0

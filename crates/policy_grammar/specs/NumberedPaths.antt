@@ -1,5 +1,5 @@
 -- Which path over numbers a path as it is written stands for, and the names in it.
-use Rattle.std.specs.Prelude.{if◌then◌else◌, ℕ, Bool, true, false, not, is_some, bytes_eq, codes, List, [], ◌∷◌, ◌++◌, map, find, Option, None, Some}
+use Rattle.std.specs.Prelude.{if◌then◌else◌, ℕ, Bool, true, false, not, is_some, bytes_eq, codes, List, [], ◌∷◌, ◌++◌, find, Option, None, Some}
 use Rattle.merlin_model.specs.declared.policy.Path.{Path, Nothing as NoWord, Empty as EmptyWord, Dot as AnyPlace, Loc, Cat as Sequence, Alt as Choice, Star as Repetition, Not as Complement}
 use Rattle.policy_grammar.specs.declared.written.RawPath.{RawPath, Dot, Named, Cat, Cat', Alt, Alt', Star, Star', Not, Not', Row_of-RawPath, end_of-RawPath, more_of-RawPath}
 

@@ -1,6 +1,7 @@
 -- Which lexemes are a path expression, and which one that is.
 use Rattle.std.specs.Prelude.{ℕ, ◌+◌, ◌≤◌, zero, suc, max, List, [], ◌∷◌, ◌++◌}
 use Rattle.merlin_text.specs.declared.token.Sign.TheVariants as signs
+use Rattle.policy_grammar.specs.declared.limits.TheConstants.{MAX_NESTING, MAX_PATH_NAMES}
 use Rattle.policy_grammar.specs.declared.written.RawPath.{RawPath, Dot, Named, Cat, Alt, Star, Not}
 use Rattle.policy_grammar.specs.Lexemes.{Lexeme, name, sign}
 
@@ -43,15 +44,15 @@ abbrev mutual
   spell_path (or s a) = spell_seq s ++ sign signs.Bar ∷ spell_path a
 
 -- one path is itself, several are a Cat or an Alt; one or more stars are one Star
-abbrev pub cat_of : List RawPath → RawPath
-cat_of [] = Cat []
-cat_of (p ∷ []) = p
-cat_of (p ∷ q ∷ ps) = Cat (p ∷ q ∷ ps)
+abbrev pub one_or_cat : List RawPath → RawPath
+one_or_cat [] = Cat []
+one_or_cat (p ∷ []) = p
+one_or_cat (p ∷ q ∷ ps) = Cat (p ∷ q ∷ ps)
 
-abbrev pub alt_of : List RawPath → RawPath
-alt_of [] = Alt []
-alt_of (p ∷ []) = p
-alt_of (p ∷ q ∷ ps) = Alt (p ∷ q ∷ ps)
+abbrev pub one_or_alt : List RawPath → RawPath
+one_or_alt [] = Alt []
+one_or_alt (p ∷ []) = p
+one_or_alt (p ∷ q ∷ ps) = Alt (p ∷ q ∷ ps)
 
 abbrev pub starred : ℕ → RawPath → RawPath
 starred zero p = p
@@ -63,18 +64,18 @@ abbrev mutual
   rep_value (bang r) = Not (rep_value r)
   rep_value (dot n) = starred n Dot
   rep_value (named text place n) = starred n (Named text place)
-  rep_value (group a n) = starred n (alt_of (seq_values a))
+  rep_value (group a n) = starred n (one_or_alt (seq_values a))
 
   pub rep_values : Seq → List RawPath
   rep_values (rep r) = rep_value r ∷ []
   rep_values (then r s) = rep_value r ∷ rep_values s
 
   pub seq_values : Alts → List RawPath
-  seq_values (seq s) = cat_of (rep_values s) ∷ []
-  seq_values (or s a) = cat_of (rep_values s) ∷ seq_values a
+  seq_values (seq s) = one_or_cat (rep_values s) ∷ []
+  seq_values (or s a) = one_or_cat (rep_values s) ∷ seq_values a
 
 abbrev pub path_value : Alts → RawPath
-path_value a = alt_of (seq_values a)
+path_value a = one_or_alt (seq_values a)
 
 -- how many brackets and bangs are open at once
 abbrev mutual
@@ -108,6 +109,6 @@ abbrev mutual
   path_names (seq s) = seq_names s
   path_names (or s a) = seq_names s + path_names a
 
-pub record IsWithin (a : Alts) : Type 0 where
-  pub depth : path_depth a ≤ 128
-  pub names : path_names a ≤ 2048
+pub record IsPathWithin (a : Alts) : Type 0 where
+  pub depth : path_depth a ≤ MAX_NESTING
+  pub names : path_names a ≤ MAX_PATH_NAMES

@@ -8,32 +8,33 @@ use Rattle.merlin_model.specs.declared.policy.Pred.{Pred, Yes, No, Test as Tests
 use Rattle.merlin_model.specs.Predicates.{first_bits}
 use Rattle.merlin_text.specs.declared.token.Word.TheVariants as words
 use Rattle.merlin_text.specs.declared.token.Sign.TheVariants as signs
+use Rattle.policy_grammar.specs.declared.limits.TheConstants.{MAX_NESTING, MAX_TESTS}
 use Rattle.policy_grammar.specs.declared.written.Tested.{Tested}
 use Rattle.policy_grammar.specs.declared.written.Tested.TheVariants as tested
 use Rattle.policy_grammar.specs.Lexemes.{Lexeme, name, word, sign, number, mac, ip, prefix}
 
 -- the two names of a field
-abbrev pub first_of : Tested → List ℕ
-first_of tested.EthSrc = codes "eth"
-first_of tested.EthDst = codes "eth"
-first_of tested.IpSrc = codes "ip"
-first_of tested.IpDst = codes "ip"
-first_of tested.IpProto = codes "ip"
-first_of tested.TcpSrc = codes "tcp"
-first_of tested.TcpDst = codes "tcp"
-first_of tested.UdpSrc = codes "udp"
-first_of tested.UdpDst = codes "udp"
+abbrev pub first_name : Tested → List ℕ
+first_name tested.EthSrc = codes "eth"
+first_name tested.EthDst = codes "eth"
+first_name tested.IpSrc = codes "ip"
+first_name tested.IpDst = codes "ip"
+first_name tested.IpProto = codes "ip"
+first_name tested.TcpSrc = codes "tcp"
+first_name tested.TcpDst = codes "tcp"
+first_name tested.UdpSrc = codes "udp"
+first_name tested.UdpDst = codes "udp"
 
-abbrev pub second_of : Tested → List ℕ
-second_of tested.EthSrc = codes "src"
-second_of tested.EthDst = codes "dst"
-second_of tested.IpSrc = codes "src"
-second_of tested.IpDst = codes "dst"
-second_of tested.IpProto = codes "proto"
-second_of tested.TcpSrc = codes "src"
-second_of tested.TcpDst = codes "dst"
-second_of tested.UdpSrc = codes "src"
-second_of tested.UdpDst = codes "dst"
+abbrev pub second_name : Tested → List ℕ
+second_name tested.EthSrc = codes "src"
+second_name tested.EthDst = codes "dst"
+second_name tested.IpSrc = codes "src"
+second_name tested.IpDst = codes "dst"
+second_name tested.IpProto = codes "proto"
+second_name tested.TcpSrc = codes "src"
+second_name tested.TcpDst = codes "dst"
+second_name tested.UdpSrc = codes "src"
+second_name tested.UdpDst = codes "dst"
 
 -- The test of a block of addresses: its bits past the length are taken as 0, and a block of one address is that address.
 abbrev pub block_test : Field → ℕ → ℕ → Test
@@ -81,7 +82,7 @@ abbrev mutual
   spell_lit (group d) = sign signs.OpenGroup ∷ spell_pred d ++ sign signs.CloseGroup ∷ []
   spell_lit yes = word words.True ∷ []
   spell_lit no = word words.False ∷ []
-  spell_lit (test field first second value _ _) = name (first_of field) first ∷ sign signs.Dot ∷ name (second_of field) second ∷ sign signs.Equals ∷ value ∷ []
+  spell_lit (test field first second value _ _) = name (first_name field) first ∷ sign signs.Dot ∷ name (second_name field) second ∷ sign signs.Equals ∷ value ∷ []
 
   pub spell_conj : Conj → List Lexeme
   spell_conj (lit l) = spell_lit l
@@ -156,6 +157,6 @@ abbrev mutual
   pred_tests (conj c) = conj_tests c
   pred_tests (or c d) = conj_tests c + pred_tests d
 
-pub record IsWithin (d : Disj) : Type 0 where
-  pub depth : pred_depth d ≤ 128
-  pub tests : pred_tests d ≤ 4096
+pub record IsPredWithin (d : Disj) : Type 0 where
+  pub depth : pred_depth d ≤ MAX_NESTING
+  pub tests : pred_tests d ≤ MAX_TESTS

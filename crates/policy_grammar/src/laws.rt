@@ -5,23 +5,23 @@ ghost use Rattle.policy_grammar.specs.declared.written.WrittenPolicy.{WrittenPol
 ghost use Rattle.std.specs.List.{AllByRecursion};
 ghost use Rattle.policy_grammar.specs.Lexemes.{Lexeme, IsSpelled};
 ghost use Rattle.policy_grammar.specs.Grammar.{StandsFor, IsFaultAt};
-ghost use Rattle.policy_grammar.specs.Machine.{run, start};
+ghost use Rattle.policy_grammar.specs.Machine.{run, first_state};
 
 /// What stands for a policy is read as that policy.
 pub fn complete()
     ensures { (lexemes : List Lexeme) (policy : WrittenPolicy) → StandsFor lexemes policy →
-        run lexemes start ≡ Ok policy }
+        run lexemes first_state ≡ Ok policy }
 {}
 
 /// What is read as a policy stands for it.
 pub fn sound()
-    ensures { (lexemes : List Lexeme) (policy : WrittenPolicy) → run lexemes start ≡ Ok policy →
-        StandsFor lexemes policy }
+    ensures { (lexemes : List Lexeme) (policy : WrittenPolicy) →
+        run lexemes first_state ≡ Ok policy → StandsFor lexemes policy }
 {}
 
 /// Where the reading stops, with some lexemes left, no policy goes on.
 pub fn fault()
-    ensures { (lexemes : List Lexeme) (left : ℕ) → run lexemes start ≡ Err left →
+    ensures { (lexemes : List Lexeme) (left : ℕ) → run lexemes first_state ≡ Err left →
         (left ≤ length lexemes) × IsFaultAt lexemes (length lexemes - left) }
 {}
 

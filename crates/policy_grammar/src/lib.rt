@@ -2,6 +2,7 @@
 #![tactic(auto)]
 
 pub mod laws;
+pub mod limits;
 mod path_copy;
 pub mod rows;
 pub mod written;

@@ -1,8 +1,8 @@
 -- A policy that a text stands for has its values in their ranges, since its lexemes have.
-use Rattle.std.proofs.Common.{◌≡◌, ◌≢◌, ◌+◌, ◌-◌, ◌*◌, ◌/◌, ◌^◌, ◌<◌, ◌≤◌, ◌⊎◌, inl, inr, ◌&&◌, ℕ, zero, suc, Bool, true, false, cond, List, [], ◌∷◌, ◌++◌, map, Option, Some, None, nat_le, nat_lt, refl, sym, ap, ◌∙◌, subst, arith}
-use Rattle.std.specs.Prelude.{Ok, filter_map}
+use Rattle.std.proofs.Common.{◌≡◌, ◌≢◌, ◌-◌, ◌*◌, ◌/◌, ◌^◌, ◌<◌, ◌≤◌, ◌⊎◌, inl, inr, ◌&&◌, ℕ, Bool, true, false, cond, List, [], ◌∷◌, ◌++◌, map, Some, None, nat_le, nat_lt, refl, sym, ap, subst, arith}
+use Rattle.std.specs.Prelude.{filter_map}
 use Rattle.std.specs.List.{AllByRecursion}
-use Rattle.std.proofs.lemmas.Bool.{ltb-true, ltb-false, leb-true}
+use Rattle.std.proofs.lemmas.Bool.{ltb-true, leb-true}
 use Rattle.std.proofs.Math.Nat.{div-mul-le_self, mul-div_cancel}
 use Rattle.std.proofs.lemmas.Nat.{pow_pos}
 use denote.Hole.Carrier.{hidden}
@@ -10,12 +10,12 @@ use Rattle.merlin_model.specs.declared.policy.Field.{Field}
 use Rattle.merlin_model.specs.declared.policy.Field.TheVariants.{EthSrc, EthDst, IpSrc, IpDst, Proto, Sport, Dport}
 use Rattle.merlin_model.specs.declared.policy.Test.{Test}
 use Rattle.merlin_model.specs.declared.policy.Test.TheVariants.{Is, Port, Within}
-use Rattle.merlin_model.specs.declared.policy.Pred.{Pred, Yes, No, Test as Tests, All, AnyOf, Not}
+use Rattle.merlin_model.specs.declared.policy.Pred.{Pred, All, AnyOf, Not}
 use Rattle.merlin_model.specs.declared.policy.Pred.TheBlock.{hidden-the_row-Pred-0, hidden-the_row-Pred-1}
 use Rattle.merlin_model.specs.declared.policy.Part.{Part}
 use Rattle.merlin_model.specs.declared.policy.Part.TheVariants.{Id, Constant}
 use Rattle.merlin_model.specs.Predicates.{first_bits, IsAddress, IsPort, IsInRange, IsTest, IsPred}
-use Rattle.merlin_model.specs.Rates.{ids_of, id_of_part}
+use Rattle.merlin_model.specs.Rates.{id_of_part}
 use Rattle.merlin_text.specs.declared.token.Sign.TheVariants as signs
 use Rattle.merlin_text.specs.declared.token.Word.TheVariants as words
 use Rattle.policy_grammar.specs.declared.written.Literal.{Literal}
@@ -23,17 +23,16 @@ use Rattle.policy_grammar.specs.declared.written.Literal.TheVariants.{Mac, Ip}
 use Rattle.policy_grammar.specs.declared.written.Limit.{Limit}
 use Rattle.policy_grammar.specs.declared.written.Tested.{Tested}
 use Rattle.policy_grammar.specs.declared.written.Tested.TheVariants as tested
-use Rattle.policy_grammar.specs.declared.written.Item.{Item}
-use Rattle.policy_grammar.specs.Lexemes.{Lexeme, IsSpelled, name, word, sign, number, rate, mac, ip, prefix, lexemes, separated}
+use Rattle.policy_grammar.specs.Lexemes.{Lexeme, IsSpelled, word, sign, number, rate, mac, ip, prefix, separated}
 use Rattle.policy_grammar.specs.Predicates.{test_of, block_test, all_of, any_of, Lit, bang, group, yes, no, test, Conj, lit, and, Disj, conj, or, spell_lit, spell_conj, spell_pred, lit_value, lit_values, conj_values, pred_value}
 use Rattle.policy_grammar.specs.PathTexts.{spell_path}
-use Rattle.policy_grammar.specs.Grammar.{SetPhrase, StatementPhrase, ItemPhrase, one, each, ListPhrase, ended, open_end, with_default, Summand, id, constant, TermPhrase, PolicyPhrase, spell_name, spell_literal, spell_set, spell_sets, spell_limit, spell_limits, spell_statement, spell_item, semicolons, spell_end, spell_list, spell_leading, spell_summand, spell_added, spell_term, spell_terms, spell_policy, set_value, statement_value, item_value, items_of, summand_value, term_value, policy_value}
+use Rattle.policy_grammar.specs.Grammar.{SetPhrase, StatementPhrase, ItemPhrase, one, each, ListPhrase, ended, open_end, with_default, Summand, id, constant, TermPhrase, PolicyPhrase, spell_name, spell_literal, spell_set, spell_sets, spell_limit, spell_limits, spell_statement, spell_item, semicolons, spell_end, spell_list, spell_leading, spell_added, spell_term, spell_terms, spell_policy, set_value, statement_value, item_value, items_of, summand_value, term_value, policy_value}
 use Rattle.policy_expansion.specs.declared.policy.Policy.{Policy}
 use Rattle.policy_expansion.specs.Kept.{IsLiteral, IsPart, IsTerm, IsStatement, statement_in, IsWellWritten}
 use Rattle.policy_expansion.proofs.Differing.{is_expanded}
 use Rattle.policy_expansion.proofs.Forming.{is_well_formed}
 use Rattle.policy_parser.specs.Policies.{IsPolicyText, IsParsed}
-use Rattle.policy_parser.proofs.Ranges.{mac_below, ip_below}
+use Rattle.merlin_base.proofs.Ranges.{mac_below, ip_below}
 use Rattle.policy_parser.proofs.Spelled.{all_spelled}
 
 abbrev pub AreSpelled : List Lexeme → Type 0

@@ -1,27 +1,23 @@
 -- Where `[ ], ` and some text stand for a policy, this is a formula alone, of terms with ids that are names: what `print_formula` asks for.
-use Rattle.std.proofs.Common.{◌≡◌, ◌≢◌, ◌≤◌, inl, inr, ℕ, List, [], ◌∷◌, ◌++◌, map, length, Option, Some, None, refl, sym, ap, ◌∙◌, subst, append_assoc, append-nil, length-append, arith}
+use Rattle.std.proofs.Common.{◌≡◌, ◌≢◌, inl, inr, ℕ, List, [], ◌∷◌, ◌++◌, map, length, Option, Some, None, refl, sym, ap, ◌∙◌, subst, append-nil, length-append, arith}
 use Rattle.std.specs.Prelude.{Result, Ok, codes}
 use Rattle.std.specs.List.{AllByRecursion}
 use Rattle.std.proofs.lemmas.List.{append_cancel_left}
 use Rattle.merlin_model.specs.declared.policy.Part.{Part}
 use Rattle.merlin_model.specs.declared.policy.Part.TheVariants.{Id, Constant}
 use Rattle.merlin_model.specs.declared.policy.Term.{Term}
-use Rattle.merlin_base.specs.Lexemes.{IsName}
 use Rattle.merlin_text.specs.declared.token.Kind.{Kind}
 use Rattle.merlin_text.specs.declared.token.Kind.TheVariants as kinds
 use Rattle.merlin_text.specs.declared.token.Sign.TheVariants as signs
 use Rattle.merlin_text.specs.declared.token.Word.TheVariants as words
-use Rattle.merlin_text.specs.Tokens.{Piece, IsPiece, ArePieces, text_of as text_of_pieces, tokens_of}
+use Rattle.merlin_text.specs.Tokens.{Piece, IsPiece, ArePieces, text_of as text_of_pieces}
 use Rattle.merlin_text.proofs.OnePiece.{one_piece, piece_some}
 use Rattle.policy_grammar.specs.declared.written.WrittenPolicy.{WrittenPolicy}
 use Rattle.merlin_text.specs.Lexemes.{Lexeme, word, sign, rate, lexemes, lexemes_in}
-use Rattle.policy_grammar.specs.Grammar.{SetPhrase, one, each, ListPhrase, ended, open_end, with_default, Summand, id, constant, TermPhrase, PolicyPhrase, spell_name, spell_sets, spell_list, spell_leading, spell_added, spell_term, spell_terms, spell_policy, summand_value, term_value, policy_value}
+use Rattle.policy_grammar.specs.Grammar.{SetPhrase, one, each, ListPhrase, ended, open_end, with_default, Summand, id, constant, TermPhrase, spell_name, spell_sets, spell_list, spell_leading, spell_added, spell_term, spell_terms, summand_value, term_value, policy_value}
 use Rattle.rate_formula.specs.FormulaLexemes.{IsWritablePart, IsWritableTerm, IsWritable}
 use Rattle.policy_expansion.specs.declared.policy.Policy.{Policy}
-use Rattle.policy_expansion.specs.declared.policy.ExpansionFault.{ExpansionFault}
 use Rattle.policy_expansion.specs.Expansion.{expansion}
-use Rattle.policy_expansion.specs.Kept.{IsTerm}
-use Rattle.policy_parser.specs.Goes.{policy_of}
 use Rattle.policy_parser.specs.Policies.{IsPolicyText, HasId, formula_alone}
 use Rattle.policy_parser.proofs.Spelled.{all_spelled}
 use Rattle.policy_parser.proofs.Formed.{AreSpelled, left, right, each_phrase, rate_few, term_formed}

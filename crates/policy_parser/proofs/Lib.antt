@@ -3,7 +3,6 @@ pub mod Firsts
 pub mod Told
 pub mod Spelled
 pub mod Once
-pub mod Ranges
 pub mod Formed
 pub mod PrintedFormula
 pub mod FormulaAlone

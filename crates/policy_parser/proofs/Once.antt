@@ -3,7 +3,7 @@ use Rattle.std.proofs.Common.{ℕ, ◌≡◌, ◌⊎◌, inl, inr, List, Result,
 use Rattle.merlin_text.specs.declared.token.Token.{Token}
 use Rattle.merlin_text.specs.declared.token.TokenFault.{TokenFault}
 use Rattle.merlin_text.specs.declared.token.TokenFault.TheVariants as tokens
-use Rattle.merlin_text.specs.Tokens.{AreTokens, IsFault}
+use Rattle.merlin_text.specs.Tokens.{AreTokens, IsTokenFault}
 use Rattle.merlin_text.proofs.Cuts.{tokens_once, tokens_or_fault, one_fault}
 use Rattle.policy_grammar.specs.declared.written.WrittenPolicy.{WrittenPolicy}
 use Rattle.policy_grammar.specs.Lexemes.{lexemes}
@@ -24,7 +24,7 @@ answer (Err fault) = Err (of_expansion fault)
 
 -- A reading ends at the tokens, at the grammar, or with what is written out; or memory runs out.
 data Stage (text : List ℕ) (r : Result Policy PolicyFault) : Type 0 where
-  at_tokens : (fault : TokenFault) → IsFault text fault → r ≡ Err (of_tokens fault) → Stage text r
+  at_tokens : (fault : TokenFault) → IsTokenFault text fault → r ≡ Err (of_tokens fault) → Stage text r
   at_syntax : (at : ℕ) → IsSyntaxFault text at → r ≡ Err (Syntax at) → Stage text r
   at_end : (w : WrittenPolicy) → IsWritten text w → r ≡ answer (expansion w) → Stage text r
   nowhere : r ≡ Err OutOfMemory → Stage text r
@@ -44,7 +44,7 @@ stage text (Err (TooManyStatements count)) p = not_expanded text (written.TooMan
 stage text (Err (DuplicateId id)) p = not_expanded text (written.DuplicateId id) p
 stage text (Err OutOfMemory) p = nowhere refl
 
-faulty : (text : List ℕ) (r : Result Policy PolicyFault) (f : TokenFault) (ts : List Token) → IsFault text f → r ≡ Err (of_tokens f) → AreTokens text ts → r ≡ Err OutOfMemory
+faulty : (text : List ℕ) (r : Result Policy PolicyFault) (f : TokenFault) (ts : List Token) → IsTokenFault text f → r ≡ Err (of_tokens f) → AreTokens text ts → r ≡ Err OutOfMemory
 faulty text r f ts p e c = e ∙ ap (λ g. (let x : Result Policy PolicyFault = Err (of_tokens g) in x)) (tokens_or_fault text ts f c p)
 
 one_token_fault : (text : List ℕ) (r s : Result Policy PolicyFault) (f g : TokenFault) → r ≡ Err (of_tokens f) → s ≡ Err (of_tokens g) → (f ≡ tokens.OutOfMemory) ⊎ ((g ≡ tokens.OutOfMemory) ⊎ (f ≡ g)) → AreOne r s

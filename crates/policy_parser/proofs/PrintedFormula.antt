@@ -1,35 +1,29 @@
 -- The text of a formula is read back as that formula, after `[ ], `.
-use Rattle.std.proofs.Common.{◌≡◌, ◌≢◌, ◌+◌, ◌-◌, ◌<◌, ◌≤◌, ◌⊎◌, inl, inr, ◌&&◌, ℕ, zero, suc, Bool, true, false, cond, List, [], ◌∷◌, ◌++◌, map, length, Option, Some, None, nat_le, refl, sym, ap, ◌∙◌, subst, append_assoc, append-nil, length-append, arith}
-use Rattle.std.specs.Prelude.{Result, Ok, Err, codes, filter_map, slice_range, take, drop}
-use Rattle.std.specs.List.{AllByRecursion, join_by, flat_map}
+use Rattle.std.proofs.Common.{◌≡◌, ◌≢◌, ◌+◌, ◌-◌, ◌≤◌, ◌⊎◌, inl, inr, ◌&&◌, ℕ, suc, Bool, true, false, cond, List, [], ◌∷◌, ◌++◌, map, length, Option, Some, None, nat_le, refl, sym, ap, ◌∙◌, subst, append_assoc, append-nil, length-append, arith}
+use Rattle.std.specs.Prelude.{Result, Ok, Err, codes, filter_map, slice_range}
+use Rattle.std.specs.List.{AllByRecursion, join_by}
 use Rattle.std.proofs.lemmas.Bool.{le-leb}
-use Rattle.std.proofs.lemmas.List.{map-append}
 use Rattle.std.proofs.Math.Seq.{take-append_seam, drop-append_seam}
 use Rattle.merlin_model.specs.declared.policy.Bound.{Bound}
 use Rattle.merlin_model.specs.declared.policy.Bound.TheVariants.{Max, Min}
 use Rattle.merlin_model.specs.declared.policy.Part.{Part}
 use Rattle.merlin_model.specs.declared.policy.Part.TheVariants.{Id, Constant}
 use Rattle.merlin_model.specs.declared.policy.Term.{Term}
-use Rattle.merlin_model.specs.Rates.{ids_of, id_of_part}
+use Rattle.merlin_model.specs.Rates.{id_of_part}
 use Rattle.merlin_base.specs.Lexemes.{IsNameByte}
 use Rattle.merlin_text.specs.declared.token.Kind.{Kind}
 use Rattle.merlin_text.specs.declared.token.Kind.TheVariants as kinds
 use Rattle.merlin_text.specs.declared.token.Sign.{Sign}
 use Rattle.merlin_text.specs.declared.token.Sign.TheVariants as signs
 use Rattle.merlin_text.specs.declared.token.Word.TheVariants as words
-use Rattle.merlin_text.specs.declared.token.Token.{Token}
-use Rattle.merlin_text.specs.Tokens.{Piece, IsPiece, ArePieces, AreTokens, written, text_of as text_of_pieces, token_at, tokens_of}
+use Rattle.merlin_text.specs.Tokens.{Piece, IsPiece, AreTokens, written, text_of as text_of_pieces, tokens_of}
 use Rattle.merlin_text.proofs.NoMac.{no_mac_first}
-use Rattle.merlin_text.proofs.OnePiece.{piece_some}
-use Rattle.policy_grammar.specs.declared.written.Item.{Item}
-use Rattle.policy_grammar.specs.declared.written.WrittenSet.{WrittenSet}
 use Rattle.policy_grammar.specs.declared.written.WrittenPolicy.{WrittenPolicy}
-use Rattle.merlin_text.specs.Lexemes.{Lexeme, name, word, sign, number, rate, mac, ip, prefix, lexeme, lexemes, lexeme_at, lexemes_in}
-use Rattle.policy_grammar.specs.Machine.{Awaited, this_sign, formula, terms_rest, term, leading, sum_rest, summand, term_rate, State, with_term, feed_all, next, run, at, start}
+use Rattle.merlin_text.specs.Lexemes.{Lexeme, name, word, sign, number, rate, mac, ip, prefix, lexeme, lexemes, lexeme_at, lexemes_in, bound_word}
+use Rattle.policy_grammar.specs.Machine.{Awaited, this_sign, terms_rest, term, leading, sum_rest, summand, term_rate, State, with_term, feed_all, next_step, run, awaiting, first_state}
 use Rattle.policy_grammar.proofs.PolicyTexts.{sound}
-use Rattle.rate_formula.specs.FormulaLexemes.{part_lexeme, bound_word, term_lexemes, formula_lexemes, lexemes_of, HasLexemes}
-use Rattle.policy_expansion.specs.Expansion.{expansion}
-use Rattle.policy_parser.specs.Goes.{policy_of}
+use Rattle.rate_formula.specs.FormulaLexemes.{part_lexeme, term_lexemes, formula_lexemes, lexemes_of, HasLexemes}
+use Rattle.policy_parser.specs.Goes.{policy_with}
 use Rattle.policy_parser.specs.Policies.{IsPolicyText, HasId, formula_alone}
 
 -- The formula's own lexemes are read as it is.
@@ -48,45 +42,45 @@ plain_terms (t ∷ []) = plain_term t
 plain_terms (t ∷ u ∷ ts) = plain_term t ++ word words.And ∷ plain_terms (u ∷ ts)
 
 reads_summands : (q : Part) (rest : List Part) (w : WrittenPolicy) (b : Bound) (ps : List Part) (y : List Lexeme)
-    → run (plain_sum (q ∷ rest) ++ sign signs.Comma ∷ y) (at (summand w b ps ∷ []) 0) ≡ run y (at (term_rate w b (ps ++ q ∷ rest) ∷ []) 0)
+    → run (plain_sum (q ∷ rest) ++ sign signs.Comma ∷ y) (awaiting (summand w b ps ∷ []) 0) ≡ run y (awaiting (term_rate w b (ps ++ q ∷ rest) ∷ []) 0)
 reads_summands (Id a) [] w b ps y = refl
 reads_summands (Constant n) [] w b ps y = refl
 reads_summands (Id a) (q ∷ rest) w b ps y =
-    reads_summands q rest w b (ps ++ Id a ∷ []) y ∙ ap (λ xs. run y (at (term_rate w b xs ∷ []) 0)) (append_assoc ps (Id a ∷ []) (q ∷ rest))
+    reads_summands q rest w b (ps ++ Id a ∷ []) y ∙ ap (λ xs. run y (awaiting (term_rate w b xs ∷ []) 0)) (append_assoc ps (Id a ∷ []) (q ∷ rest))
 reads_summands (Constant n) (q ∷ rest) w b ps y =
-    reads_summands q rest w b (ps ++ Constant n ∷ []) y ∙ ap (λ xs. run y (at (term_rate w b xs ∷ []) 0)) (append_assoc ps (Constant n ∷ []) (q ∷ rest))
+    reads_summands q rest w b (ps ++ Constant n ∷ []) y ∙ ap (λ xs. run y (awaiting (term_rate w b xs ∷ []) 0)) (append_assoc ps (Constant n ∷ []) (q ∷ rest))
 
 reads_sum : (parts : List Part) (w : WrittenPolicy) (b : Bound) (ps : List Part) (y : List Lexeme) → filter_map id_of_part parts ≢ []
-    → run (plain_sum parts ++ sign signs.Comma ∷ y) (at (leading w b ps ∷ []) 0) ≡ run y (at (term_rate w b (ps ++ parts) ∷ []) 0)
+    → run (plain_sum parts ++ sign signs.Comma ∷ y) (awaiting (leading w b ps ∷ []) 0) ≡ run y (awaiting (term_rate w b (ps ++ parts) ∷ []) 0)
 reads_sum [] w b ps y some = absurd (some refl)
 reads_sum (Id a ∷ []) w b ps y some = refl
 reads_sum (Constant n ∷ []) w b ps y some = absurd (some refl)
 reads_sum (Id a ∷ q ∷ rest) w b ps y some =
-    reads_summands q rest w b (ps ++ Id a ∷ []) y ∙ ap (λ xs. run y (at (term_rate w b xs ∷ []) 0)) (append_assoc ps (Id a ∷ []) (q ∷ rest))
+    reads_summands q rest w b (ps ++ Id a ∷ []) y ∙ ap (λ xs. run y (awaiting (term_rate w b xs ∷ []) 0)) (append_assoc ps (Id a ∷ []) (q ∷ rest))
 reads_sum (Constant n ∷ q ∷ rest) w b ps y some =
-    reads_sum (q ∷ rest) w b (ps ++ Constant n ∷ []) y some ∙ ap (λ xs. run y (at (term_rate w b xs ∷ []) 0)) (append_assoc ps (Constant n ∷ []) (q ∷ rest))
+    reads_sum (q ∷ rest) w b (ps ++ Constant n ∷ []) y some ∙ ap (λ xs. run y (awaiting (term_rate w b xs ∷ []) 0)) (append_assoc ps (Constant n ∷ []) (q ∷ rest))
 
 abbrev with_own : WrittenPolicy → Term → WrittenPolicy
 with_own w t = with_term w t.bound t.parts t.rate
 
 reads_term : (bound : Bound) (parts : List Part) (n : ℕ) (w : WrittenPolicy) (y : List Lexeme) → filter_map id_of_part parts ≢ []
-    → run (plain_term (record { bound = bound; parts = parts; rate = n }) ++ y) (at (term w ∷ []) 0) ≡ run y (at (terms_rest (with_term w bound parts n) ∷ []) 0)
+    → run (plain_term (record { bound = bound; parts = parts; rate = n }) ++ y) (awaiting (term w ∷ []) 0) ≡ run y (awaiting (terms_rest (with_term w bound parts n) ∷ []) 0)
 reads_term Max parts n w y some =
-    ap (λ ts. run ts (at (leading w Max [] ∷ []) 0)) (append_assoc (plain_sum parts) (sign signs.Comma ∷ rate n ∷ sign signs.CloseGroup ∷ []) y)
+    ap (λ ts. run ts (awaiting (leading w Max [] ∷ []) 0)) (append_assoc (plain_sum parts) (sign signs.Comma ∷ rate n ∷ sign signs.CloseGroup ∷ []) y)
     ∙ reads_sum parts w Max [] (rate n ∷ sign signs.CloseGroup ∷ y) some
 reads_term Min parts n w y some =
-    ap (λ ts. run ts (at (leading w Min [] ∷ []) 0)) (append_assoc (plain_sum parts) (sign signs.Comma ∷ rate n ∷ sign signs.CloseGroup ∷ []) y)
+    ap (λ ts. run ts (awaiting (leading w Min [] ∷ []) 0)) (append_assoc (plain_sum parts) (sign signs.Comma ∷ rate n ∷ sign signs.CloseGroup ∷ []) y)
     ∙ reads_sum parts w Min [] (rate n ∷ sign signs.CloseGroup ∷ y) some
 
 reads_terms : (t : Term) (ts : List Term) (before : List Term) → AllByRecursion HasId (t ∷ ts)
-    → run (plain_terms (t ∷ ts)) (at (term (policy_of [] [] None before) ∷ []) 0) ≡ Ok (policy_of [] [] None (before ++ t ∷ ts))
+    → run (plain_terms (t ∷ ts)) (awaiting (term (policy_with [] [] None before) ∷ []) 0) ≡ Ok (policy_with [] [] None (before ++ t ∷ ts))
 reads_terms t [] before h =
-    ap (λ xs. run xs (at (term (policy_of [] [] None before) ∷ []) 0)) (sym (append-nil (plain_term t)))
-    ∙ reads_term t.bound t.parts t.rate (policy_of [] [] None before) [] h.0
+    ap (λ xs. run xs (awaiting (term (policy_with [] [] None before) ∷ []) 0)) (sym (append-nil (plain_term t)))
+    ∙ reads_term t.bound t.parts t.rate (policy_with [] [] None before) [] h.0
 reads_terms t (u ∷ ts) before h =
-    reads_term t.bound t.parts t.rate (policy_of [] [] None before) (word words.And ∷ plain_terms (u ∷ ts)) h.0
+    reads_term t.bound t.parts t.rate (policy_with [] [] None before) (word words.And ∷ plain_terms (u ∷ ts)) h.0
     ∙ reads_terms u ts (before ++ t ∷ []) h.1
-    ∙ ap (λ xs. (let r : Result WrittenPolicy ℕ = Ok (policy_of [] [] None xs) in r)) (append_assoc before (t ∷ []) (u ∷ ts))
+    ∙ ap (λ xs. (let r : Result WrittenPolicy ℕ = Ok (policy_with [] [] None xs) in r)) (append_assoc before (t ∷ []) (u ∷ ts))
 
 -- Where names stand makes no difference to a formula.
 
@@ -107,7 +101,7 @@ abbrev StaysIn : Option State → Type 0
 StaysIn None = Unit {0}
 StaysIn (Some s) = InFormula s.awaited
 
-stays_if : (b : Bool) (k : List Awaited) (n : ℕ) → InFormula k → StaysIn (cond b (Some (at k n)) None)
+stays_if : (b : Bool) (k : List Awaited) (n : ℕ) → InFormula k → StaysIn (cond b (Some (awaiting k n)) None)
 stays_if true k n g = g
 stays_if false k n g = tt
 
@@ -147,22 +141,22 @@ same_fed k n (mac m) g = refl
 same_fed k n (ip m) g = refl
 same_fed k n (prefix v m) g = refl
 
-reads_placed : (ls : List Lexeme) (k : List Awaited) (n : ℕ) (w : WrittenPolicy) → InFormula k → run (map unplaced ls) (at k n) ≡ Ok w → run ls (at k n) ≡ Ok w
+reads_placed : (ls : List Lexeme) (k : List Awaited) (n : ℕ) (w : WrittenPolicy) → InFormula k → run (map unplaced ls) (awaiting k n) ≡ Ok w → run ls (awaiting k n) ≡ Ok w
 reads_placed [] k n w g e = e
 reads_placed (t ∷ ls) k n w g e =
-    by (feed_all k n t) refl (stays k n t g) (ap (λ o. next o (suc (length (map unplaced ls))) (λ u. run (map unplaced ls) u)) (sym (same_fed k n t g)) ∙ e)
+    by (feed_all k n t) refl (stays k n t g) (ap (λ o. next_step o (suc (length (map unplaced ls))) (λ u. run (map unplaced ls) u)) (sym (same_fed k n t g)) ∙ e)
     (λ u inside r. reads_placed ls u.awaited u.left w inside r)
   where
-    by : (o : Option State) → feed_all k n t ≡ o → StaysIn o → next (feed_all k n t) (suc (length (map unplaced ls))) (λ u. run (map unplaced ls) u) ≡ Ok w
+    by : (o : Option State) → feed_all k n t ≡ o → StaysIn o → next_step (feed_all k n t) (suc (length (map unplaced ls))) (λ u. run (map unplaced ls) u) ≡ Ok w
         → ((u : State) → InFormula u.awaited → run (map unplaced ls) u ≡ Ok w → run ls u ≡ Ok w)
-        → next (feed_all k n t) (suc (length ls)) (λ u. run ls u) ≡ Ok w
+        → next_step (feed_all k n t) (suc (length ls)) (λ u. run ls u) ≡ Ok w
     by None q s r later =
-        let clash : next (feed_all k n t) (suc (length (map unplaced ls))) (λ u. run (map unplaced ls) u) ≡ Err (suc (length (map unplaced ls))) =
-        ap (λ o. next o (suc (length (map unplaced ls))) (λ u. run (map unplaced ls) u)) q in
+        let clash : next_step (feed_all k n t) (suc (length (map unplaced ls))) (λ u. run (map unplaced ls) u) ≡ Err (suc (length (map unplaced ls))) =
+        ap (λ o. next_step o (suc (length (map unplaced ls))) (λ u. run (map unplaced ls) u)) q in
         absurd (cc (clash, r))
     by (Some u) q s r later =
-        ap (λ o. next o (suc (length ls)) (λ v. run ls v)) q
-        ∙ later u s (sym (ap (λ o. next o (suc (length (map unplaced ls))) (λ v. run (map unplaced ls) v)) q) ∙ r)
+        ap (λ o. next_step o (suc (length ls)) (λ v. run ls v)) q
+        ∙ later u s (sym (ap (λ o. next_step o (suc (length (map unplaced ls))) (λ v. run (map unplaced ls) v)) q) ∙ r)
 
 -- The lexemes of pieces, with the places of names.
 
@@ -270,11 +264,11 @@ formula_text_parses text (t ∷ ts) some ids p =
     } in
     let are : lexemes bytes tokens ≡ lexemes_in 0 pieces = all_placed bytes [] pieces whole in
     let plain : map unplaced (lexemes_in 5 p.pieces) ≡ plain_terms (t ∷ ts) = all_bare 5 p.pieces ∙ p.are ∙ bare_terms (t ∷ ts) in
-    let read : run (lexemes_in 5 p.pieces) (at (term (policy_of [] [] None []) ∷ []) 0) ≡ Ok (policy_of [] [] None (t ∷ ts)) =
-    reads_placed (lexemes_in 5 p.pieces) (term (policy_of [] [] None []) ∷ []) 0 (policy_of [] [] None (t ∷ ts)) of_term
-    (ap (λ ls. run ls (at (term (policy_of [] [] None []) ∷ []) 0)) plain ∙ reads_terms t ts [] ids) in
+    let read : run (lexemes_in 5 p.pieces) (awaiting (term (policy_with [] [] None []) ∷ []) 0) ≡ Ok (policy_with [] [] None (t ∷ ts)) =
+    reads_placed (lexemes_in 5 p.pieces) (term (policy_with [] [] None []) ∷ []) 0 (policy_with [] [] None (t ∷ ts)) of_term
+    (ap (λ ls. run ls (awaiting (term (policy_with [] [] None []) ∷ []) 0)) plain ∙ reads_terms t ts [] ids) in
     record {
-      written = policy_of [] [] None (t ∷ ts);
-      text_of = record { tokens = tokens; cut = cut; stands = sound (lexemes bytes tokens) (policy_of [] [] None (t ∷ ts)) (ap (λ ls. run ls start) are ∙ read) };
+      written = policy_with [] [] None (t ∷ ts);
+      text_of = record { tokens = tokens; cut = cut; stands = sound (lexemes bytes tokens) (policy_with [] [] None (t ∷ ts)) (ap (λ ls. run ls first_state) are ∙ read) };
       expanded = refl;
     }

@@ -7,21 +7,21 @@ use Rattle.merlin_text.specs.declared.token.Sign.TheVariants as signs
 use Rattle.policy_grammar.specs.declared.written.RawPath.{RawPath, Not}
 use Rattle.policy_grammar.specs.declared.written.WrittenPolicy.{WrittenPolicy}
 use Rattle.policy_grammar.specs.Lexemes.{Lexeme, lexeme, lexemes, sign}
-use Rattle.policy_grammar.specs.PathTexts.{cat_of}
-use Rattle.policy_grammar.specs.Machine.{Awaited, path_negation, rep, prim, reps, alts, feed_rep, feed_alts, feed_sequence, feed_prim, feed_all, put_path, repeated, finish_all, next, run, at}
+use Rattle.policy_grammar.specs.PathTexts.{one_or_cat}
+use Rattle.policy_grammar.specs.Machine.{Awaited, path_negation, rep, prim, reps, alts, feed_rep, feed_alts, feed_sequence, feed_prim, feed_all, put_path, repeated, finish_all, next_step, run, awaiting}
 use Rattle.policy_parser.specs.Goes.{IsInSequence, begins_list, is_star, stars_list}
 
 -- with no name and no dot left nothing can begin
-pub none_left : (bytes : List ℕ) (ts : List Token) (k : List Awaited) (n : ℕ) → n ≡ 0 → run (lexemes bytes ts) (at (rep ∷ k) n) ≡ Err (length ts)
+pub none_left : (bytes : List ℕ) (ts : List Token) (k : List Awaited) (n : ℕ) → n ≡ 0 → run (lexemes bytes ts) (awaiting (rep ∷ k) n) ≡ Err (length ts)
 none_left bytes [] k n e = refl
 none_left bytes (t ∷ ts) k n e =
-    ap (λ m. next (feed_rep k m (lexeme bytes t)) (suc (length (lexemes bytes ts))) (λ u. run (lexemes bytes ts) u)) e
+    ap (λ m. next_step (feed_rep k m (lexeme bytes t)) (suc (length (lexemes bytes ts))) (λ u. run (lexemes bytes ts) u)) e
     ∙ ap (λ x. let r : Result WrittenPolicy ℕ = Err (suc x) in r) (length-map ts (lexeme bytes))
 
 -- where a rep begins, it goes on the sequence
-pub goes_on : (ts : List Lexeme) (ls ps : List RawPath) (k : List Awaited) (n : ℕ) → begins_list ts ≡ true → run ts (at (reps ls ∷ alts ps ∷ k) n) ≡ run ts (at (rep ∷ reps ls ∷ alts ps ∷ k) n)
+pub goes_on : (ts : List Lexeme) (ls ps : List RawPath) (k : List Awaited) (n : ℕ) → begins_list ts ≡ true → run ts (awaiting (reps ls ∷ alts ps ∷ k) n) ≡ run ts (awaiting (rep ∷ reps ls ∷ alts ps ∷ k) n)
 goes_on [] ls ps k n e = cc
-goes_on (t ∷ ts) ls ps k n e = ap (λ b. next (cond b (feed_rep (reps ls ∷ alts ps ∷ k) n t) (feed_alts (ps ++ cat_of ls ∷ []) k n t)) (suc (length ts)) (λ u. run ts u)) e
+goes_on (t ∷ ts) ls ps k n e = ap (λ b. next_step (cond b (feed_rep (reps ls ∷ alts ps ∷ k) n t) (feed_alts (ps ++ one_or_cat ls ∷ []) k n t)) (suc (length ts)) (λ u. run ts u)) e
 
 pub ruleset path_laws = (none_left, goes_on)
 
@@ -43,6 +43,6 @@ prim_feeds p b k n (sign signs.Star) e = cc
 prim_feeds p b k n t e = refl
 
 -- a path with its stars stands in its sequence
-pub stars_end : (ts : List Lexeme) (p : RawPath) (b : Bool) (k : List Awaited) (n : ℕ) → IsInSequence k → stars_list ts ≡ false → run ts (at (prim p b ∷ k) n) ≡ run ts (at (put_path (repeated b p) k) n)
+pub stars_end : (ts : List Lexeme) (p : RawPath) (b : Bool) (k : List Awaited) (n : ℕ) → IsInSequence k → stars_list ts ≡ false → run ts (awaiting (prim p b ∷ k) n) ≡ run ts (awaiting (put_path (repeated b p) k) n)
 stars_end [] p b k n within e = ap (λ o. let r : Result WrittenPolicy ℕ = ok_or o 0 in r) (sym (unfinished (repeated b p) k within))
-stars_end (t ∷ ts) p b k n within e = ap (λ o. next o (suc (length ts)) (λ u. run ts u)) (prim_feeds p b k n t e ∙ feeds (repeated b p) k n t within)
+stars_end (t ∷ ts) p b k n within e = ap (λ o. next_step o (suc (length ts)) (λ u. run ts u)) (prim_feeds p b k n t e ∙ feeds (repeated b p) k n t within)

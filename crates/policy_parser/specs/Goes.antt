@@ -6,17 +6,18 @@ use Rattle.merlin_text.specs.declared.token.Sign.TheVariants as signs
 use Rattle.merlin_text.specs.declared.token.Span.{Span}
 use Rattle.merlin_text.specs.declared.token.Token.{Token}
 use Rattle.merlin_text.specs.declared.token.Word.TheVariants as words
+use Rattle.policy_grammar.specs.declared.limits.TheConstants.{MAX_TESTS}
 use Rattle.policy_grammar.specs.declared.written.Item.{Item}
 use Rattle.policy_grammar.specs.declared.written.Limit.{Limit}
 use Rattle.policy_grammar.specs.declared.written.RawPath.{RawPath}
 use Rattle.policy_grammar.specs.declared.written.WrittenPolicy.{WrittenPolicy}
 use Rattle.policy_grammar.specs.declared.written.WrittenSet.{WrittenSet}
 use Rattle.policy_grammar.specs.Lexemes.{Lexeme, lexemes, sign}
-use Rattle.policy_grammar.specs.Machine.{Awaited, Head, Heading, Opened, State, this_sign, this_word, any_name, literal, lits, conjs, statement_pred, rep, alts, default_path, set_start, outer_set, each_id, item, formula, listed, with_item, path_negation, reps, begins_rep, term, run, at}
+use Rattle.policy_grammar.specs.Machine.{Awaited, Head, Heading, Opened, State, this_sign, this_word, any_name, literal, lits, conjs, statement_pred, rep, alts, default_path, set_start, outer_set, each_id, item, formula, with_list, with_item, path_negation, reps, begins_rep, term, run, awaiting}
 use Rattle.policy_parser.specs.declared.fault.ReadError.{ReadError}
 use Rattle.policy_parser.specs.declared.fault.ReadError.TheVariants as errors
-use Rattle.policy_parser.specs.declared.items.End.{End}
-use Rattle.policy_parser.specs.declared.items.End.TheVariants as ends
+use Rattle.policy_parser.specs.declared.items.Ending.{Ending}
+use Rattle.policy_parser.specs.declared.items.Ending.TheVariants as endings
 use Rattle.policy_parser.specs.declared.items.Entry.{Entry}
 use Rattle.policy_parser.specs.declared.items.Entry.TheVariants as entries
 
@@ -92,36 +93,36 @@ set_awaited ss name = this_sign signs.Becomes ∷ this_sign signs.OpenSet ∷ se
 
 -- a closing bracket, and then this alone
 abbrev pub closing : Awaited → State
-closing a = at (this_sign signs.CloseGroup ∷ a ∷ []) 0
+closing a = awaiting (this_sign signs.CloseGroup ∷ a ∷ []) 0
 
 -- after the opening of the list
 abbrev pub first_item : List WrittenSet → State
-first_item sets = at (item (record { sets = sets; items = [] }) ∷ []) 0
+first_item sets = awaiting (item (record { sets = sets; items = [] }) ∷ []) 0
 
 -- after the id of a statement
 abbrev pub statement_awaited : Heading → State
-statement_awaited h = at (this_sign signs.Colon ∷ literal ∷ lits [] ∷ conjs [] ∷ statement_pred h ∷ []) 4096
+statement_awaited h = awaiting (this_sign signs.Colon ∷ literal ∷ lits [] ∷ conjs [] ∷ statement_pred h ∷ []) MAX_TESTS
 
 -- a statement up to its path, and these limits
 abbrev pub opened : Heading → Pred → RawPath → List Limit → Opened
 opened h pred path limits = record { heading = h; pred = pred; path = path; limits = limits }
 
 -- after the sign that ends an item: the next item, or what follows the list
-abbrev pub ended : End → Head → State
-ended ends.Item h = at (item h ∷ []) 0
-ended ends.List h = at (formula (listed h None) ∷ []) 0
+abbrev pub ended : Ending → Head → State
+ended endings.Item h = awaiting (item h ∷ []) 0
+ended endings.List h = awaiting (formula (with_list h None) ∷ []) 0
 
 -- a policy of these parts
-abbrev pub policy_of : List WrittenSet → List Item → Option RawPath → List Term → WrittenPolicy
-policy_of sets items default terms = record { sets = sets; items = items; default_path = default; terms = terms }
+abbrev pub policy_with : List WrittenSet → List Item → Option RawPath → List Term → WrittenPolicy
+policy_with sets items default terms = record { sets = sets; items = items; default_path = default; terms = terms }
 
 -- after an entry of the list
 abbrev pub after_entry : Entry → Head → State
 after_entry (entries.Item i end) h = ended end (with_item h i)
-after_entry (entries.Default path) h = at (formula (listed h (Some path)) ∷ []) 0
-after_entry entries.End h = at (formula (listed h None) ∷ []) 0
+after_entry (entries.Default path) h = awaiting (formula (with_list h (Some path)) ∷ []) 0
+after_entry entries.End h = awaiting (formula (with_list h None) ∷ []) 0
 
 -- after a term: another one, or the whole policy
 abbrev pub more_terms : List ℕ → WrittenPolicy → Option (List Token) → Result WrittenPolicy ℕ
-more_terms bytes w (Some rest) = run (lexemes bytes rest) (at (term w ∷ []) 0)
+more_terms bytes w (Some rest) = run (lexemes bytes rest) (awaiting (term w ∷ []) 0)
 more_terms bytes w None = Ok w

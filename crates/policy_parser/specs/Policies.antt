@@ -6,7 +6,7 @@ use Rattle.std.specs.Option.{option_map_or}
 use Rattle.merlin_text.specs.declared.token.Token.{Token}
 use Rattle.merlin_text.specs.declared.token.TokenFault.{TokenFault}
 use Rattle.merlin_text.specs.declared.token.TokenFault.TheVariants as token_faults
-use Rattle.merlin_text.specs.Tokens.{AreTokens, IsFault}
+use Rattle.merlin_text.specs.Tokens.{AreTokens, IsTokenFault}
 use Rattle.policy_grammar.specs.declared.written.WrittenPolicy.{WrittenPolicy}
 use Rattle.policy_grammar.specs.Lexemes.{lexemes}
 use Rattle.policy_grammar.specs.Grammar.{StandsFor, IsFaultAt}
@@ -71,8 +71,8 @@ pub record IsNotExpanded (text : List ℕ) (fault : ExpansionFault) : Type 0 whe
 
 -- why a text stands for no policy: its tokens, then its grammar, then its sets, statements and ids
 abbrev pub IsRefused : PolicyFault → List ℕ → Type 0
-IsRefused (BadByte at) text = IsFault text (token_faults.BadByte at)
-IsRefused (BadNumber at) text = IsFault text (token_faults.BadNumber at)
+IsRefused (BadByte at) text = IsTokenFault text (token_faults.BadByte at)
+IsRefused (BadNumber at) text = IsTokenFault text (token_faults.BadNumber at)
 IsRefused (Syntax at) text = IsSyntaxFault text at
 IsRefused (DuplicateSet name) text = IsNotExpanded text (expansion_faults.DuplicateSet name)
 IsRefused (MixedSet name) text = IsNotExpanded text (expansion_faults.MixedSet name)

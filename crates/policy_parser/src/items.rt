@@ -2,10 +2,11 @@
 
 ghost use Rattle.std.specs.Prelude.{◌≡◌, ◌<◌, ℕ, List, [], ◌∷◌, IfOk, IfErr, Option, None, Some, length};
 ghost use Rattle.merlin_model.specs.declared.policy.Pred.{Pred};
+ghost use Rattle.policy_grammar.specs.declared.limits.TheConstants.{MAX_PATH_NAMES};
 ghost use Rattle.policy_grammar.specs.declared.written.RawPath.{RawPath};
 ghost use Rattle.policy_grammar.specs.declared.written.WrittenSet.{WrittenSet};
-ghost use Rattle.policy_grammar.specs.Machine.{Awaited, Head, Heading, Opened, whole_path, statement_path, limit as limit_awaited, limit_rest, with_limit, item, formula, heading_of, closed, with_item, item_from, at};
-ghost use Rattle.policy_parser.specs.Goes.{Reads, IsSyntax, opened, ended, after_entry, policy_of, statement_awaited, path_awaited, variables_awaited, cross_awaited, each_id_awaited, default_awaited, first_item};
+ghost use Rattle.policy_grammar.specs.Machine.{Awaited, Head, Heading, Opened, whole_path, statement_path, limit as limit_awaited, limit_rest, with_limit, item, formula, heading_of, closed, with_item, item_from, awaiting};
+ghost use Rattle.policy_parser.specs.Goes.{Reads, IsSyntax, opened, ended, after_entry, policy_with, statement_awaited, path_awaited, variables_awaited, cross_awaited, each_id_awaited, default_awaited, first_item};
 
 use crate::fault::ReadError;
 use crate::paths::path_of;
@@ -13,23 +14,15 @@ use crate::predicates::predicate;
 use crate::signs::{any_name_at, bound_at, name_at, rate_at, sign_at, text, word_at};
 use merlin_model::name::{Name, name_from};
 use merlin_model::policy::Pred;
-use merlin_text::{Cursor, Kind, Sign, Word};
+use merlin_text::{Cursor, Sign, Kind, Word};
+use policy_grammar::limits::{MAX_NESTING, MAX_PATH_NAMES, MAX_TESTS};
 use policy_grammar::written::{Item, Limit, RawPath, WrittenStatement};
 use sqlite_items::Items;
 use std::alloc::Global;
 
-/// How many brackets and bangs may be open at once.
-const NESTING: usize = 128;
-
-/// How many tests a predicate may have.
-const TESTS: usize = 4_096;
-
-/// How many names and dots a path may have.
-const NAMES: usize = 2_048;
-
 /// What a sign after an item ends.
 #[derive(Clone, Copy)]
-pub enum End {
+pub enum Ending {
     /// The item alone: another may follow.
     Item,
     /// The whole list.
@@ -40,7 +33,7 @@ pub enum End {
 #[derive(Drop)]
 pub enum Entry {
     /// An item, with what its last sign ends.
-    Item(Item, End),
+    Item(Item, Ending),
     /// The default, which ends the list.
     Default(RawPath),
     /// The end of the list.
@@ -50,8 +43,8 @@ pub enum Entry {
 /// A limit, and what follows it.
 fn limit_at<'a>(tokens: Cursor<'a>) -> Result<(Limit, Cursor<'a>), ReadError>
     ensures goes { (bytes : List ℕ) (o : Opened) →
-        Reads bytes tokens.entry result (at (limit_awaited o ∷ []) 0)
-        (λ r. r.1) (λ r. at (limit_rest (with_limit o r.0.bound r.0.rate) ∷ []) 0) }
+        Reads bytes tokens.entry result (awaiting (limit_awaited o ∷ []) 0)
+        (λ r. r.1) (λ r. awaiting (limit_rest (with_limit o r.0.bound r.0.rate) ∷ []) 0) }
     ensures shorter { IfOk result (λ r. length r.1 < length tokens.entry) }
     ensures no_memory { IfErr result IsSyntax }
 {
@@ -66,9 +59,9 @@ fn limit_at<'a>(tokens: Cursor<'a>) -> Result<(Limit, Cursor<'a>), ReadError>
 fn limits<'a>(
     alloc: Global,
     tokens: Cursor<'a>,
-) -> Result<(Items<Limit>, End, Cursor<'a>), ReadError>
+) -> Result<(Items<Limit>, Ending, Cursor<'a>), ReadError>
     ensures goes { (bytes : List ℕ) (h : Heading) (pred : Pred) (path : RawPath) →
-        Reads bytes tokens.entry result (at (limit_awaited (opened h pred path []) ∷ []) 0)
+        Reads bytes tokens.entry result (awaiting (limit_awaited (opened h pred path []) ∷ []) 0)
         (λ r. r.2) (λ r. ended r.1 (closed (opened h pred path r.0))) }
     ensures shorter { IfOk result (λ r. length r.2 < length tokens.entry) }
 {
@@ -82,8 +75,8 @@ fn limits<'a>(
         };
         match first.kind {
             Kind::Word(Word::And) => rest = after,
-            Kind::Sign(Sign::Semicolon) => return Ok((limits, End::Item, after)),
-            Kind::Sign(Sign::CloseList) => return Ok((limits, End::List, after)),
+            Kind::Sign(Sign::Semicolon) => return Ok((limits, Ending::Item, after)),
+            Kind::Sign(Sign::CloseList) => return Ok((limits, Ending::List, after)),
             _ => return Err(ReadError::Syntax(others.len())),
         }
     }
@@ -93,9 +86,9 @@ fn limits<'a>(
 fn statement_end<'a>(
     alloc: Global,
     tokens: Cursor<'a>,
-) -> Result<(Items<Limit>, End, Cursor<'a>), ReadError>
+) -> Result<(Items<Limit>, Ending, Cursor<'a>), ReadError>
     ensures goes { (bytes : List ℕ) (h : Heading) (pred : Pred) (path : RawPath) (n : ℕ) →
-        Reads bytes tokens.entry result (at (whole_path path ∷ statement_path h pred ∷ []) n)
+        Reads bytes tokens.entry result (awaiting (whole_path path ∷ statement_path h pred ∷ []) n)
         (λ r. r.2) (λ r. ended r.1 (closed (opened h pred path r.0))) }
     ensures shorter { IfOk result (λ r. length r.2 < length tokens.entry) }
 {
@@ -104,8 +97,8 @@ fn statement_end<'a>(
     };
     match first.kind {
         Kind::Word(Word::At) => limits(alloc, rest),
-        Kind::Sign(Sign::Semicolon) => Ok((Items::new(alloc), End::Item, rest)),
-        Kind::Sign(Sign::CloseList) => Ok((Items::new(alloc), End::List, rest)),
+        Kind::Sign(Sign::Semicolon) => Ok((Items::new(alloc), Ending::Item, rest)),
+        Kind::Sign(Sign::CloseList) => Ok((Items::new(alloc), Ending::List, rest)),
         _ => Err(ReadError::Syntax(tokens.len())),
     }
 }
@@ -118,11 +111,11 @@ fn pred_part<'a>(
 ) -> Result<(Pred, Cursor<'a>), ReadError>
     ensures goes { (h : Heading) →
         Reads bytes.now tokens.entry result (statement_awaited h)
-        (λ r. r.1) (λ r. at (path_awaited (statement_path h r.0 ∷ [])) 2048) }
+        (λ r. r.1) (λ r. awaiting (path_awaited (statement_path h r.0 ∷ [])) MAX_PATH_NAMES) }
     ensures shorter { IfOk result (λ r. length r.1 < length tokens.entry) }
 {
     let rest = sign_at(Sign::Colon, tokens)?;
-    let (pred, rest, _left) = predicate(alloc, bytes, rest, NESTING, TESTS)?;
+    let (pred, rest, _left) = predicate(alloc, bytes, rest, MAX_NESTING, MAX_TESTS)?;
     let Some((first, after)) = rest.split_first() else {
         return Err(ReadError::Syntax(0));
     };
@@ -138,14 +131,14 @@ fn statement<'a>(
     id: Name,
     bytes: &[u8],
     tokens: Cursor<'a>,
-) -> Result<(WrittenStatement, End, Cursor<'a>), ReadError>
+) -> Result<(WrittenStatement, Ending, Cursor<'a>), ReadError>
     ensures goes { (h : Head) (pair : Option (List ℕ × List ℕ)) →
         Reads bytes.now tokens.entry result (statement_awaited (heading_of h pair id))
         (λ r. r.2) (λ r. ended r.1 (with_item h (item_from pair r.0))) }
     ensures shorter { IfOk result (λ r. length r.2 < length tokens.entry) }
 {
     let (pred, rest) = pred_part(alloc, bytes, tokens)?;
-    let (path, rest, _left) = path_of(alloc, bytes, rest, NESTING, NAMES)?;
+    let (path, rest, _left) = path_of(alloc, bytes, rest, MAX_NESTING, MAX_PATH_NAMES)?;
     let (limits, end, rest) = statement_end(alloc, rest)?;
     Ok((
         WrittenStatement {
@@ -179,8 +172,8 @@ fn plain<'a>(
 /// The two names after `foreach`, which stand for nothing else.
 fn variables<'a>(tokens: Cursor<'a>) -> Result<Cursor<'a>, ReadError>
     ensures goes { (bytes : List ℕ) (k : List Awaited) (n : ℕ) →
-        Reads bytes tokens.entry result (at (variables_awaited k) n)
-        (λ r. r) (λ r. at k n) }
+        Reads bytes tokens.entry result (awaiting (variables_awaited k) n)
+        (λ r. r) (λ r. awaiting k n) }
     ensures shorter { IfOk result (λ r. length r < length tokens.entry) }
     ensures no_memory { IfErr result IsSyntax }
 {
@@ -198,8 +191,8 @@ fn crossed<'a>(
     tokens: Cursor<'a>,
 ) -> Result<(Name, Name, Cursor<'a>), ReadError>
     ensures goes { (h : Head) →
-        Reads bytes.now tokens.entry result (at (cross_awaited h) 0)
-        (λ r. r.2) (λ r. at (each_id_awaited h r.0 r.1) 0) }
+        Reads bytes.now tokens.entry result (awaiting (cross_awaited h) 0)
+        (λ r. r.2) (λ r. awaiting (each_id_awaited h r.0 r.1) 0) }
     ensures shorter { IfOk result (λ r. length r.2 < length tokens.entry) }
 {
     let rest = word_at(Word::In, tokens)?;
@@ -218,7 +211,7 @@ fn for_each<'a>(
     tokens: Cursor<'a>,
 ) -> Result<(Entry, Cursor<'a>), ReadError>
     ensures goes { (h : Head) →
-        Reads bytes.now tokens.entry result (at (variables_awaited (cross_awaited h)) 0)
+        Reads bytes.now tokens.entry result (awaiting (variables_awaited (cross_awaited h)) 0)
         (λ r. r.1) (λ r. after_entry r.0 h) }
     ensures shorter { IfOk result (λ r. length r.1 < length tokens.entry) }
 {
@@ -243,12 +236,12 @@ fn default_path<'a>(
     tokens: Cursor<'a>,
 ) -> Result<(Entry, Cursor<'a>), ReadError>
     ensures goes { (h : Head) →
-        Reads bytes.now tokens.entry result (at (default_awaited h) 2048)
+        Reads bytes.now tokens.entry result (awaiting (default_awaited h) MAX_PATH_NAMES)
         (λ r. r.1) (λ r. after_entry r.0 h) }
     ensures shorter { IfOk result (λ r. length r.1 < length tokens.entry) }
 {
     let rest = sign_at(Sign::Arrow, tokens)?;
-    let (path, rest, _left) = path_of(alloc, bytes, rest, NESTING, NAMES)?;
+    let (path, rest, _left) = path_of(alloc, bytes, rest, MAX_NESTING, MAX_PATH_NAMES)?;
     let Some((first, after)) = rest.split_first() else {
         return Err(ReadError::Syntax(0));
     };
@@ -269,7 +262,7 @@ fn entry_of<'a>(
     tokens: Cursor<'a>,
 ) -> Result<(Entry, Cursor<'a>), ReadError>
     ensures goes { (h : Head) →
-        Reads bytes.now tokens.entry result (at (item h ∷ []) 0)
+        Reads bytes.now tokens.entry result (awaiting (item h ∷ []) 0)
         (λ r. r.1) (λ r. after_entry r.0 h) }
     ensures shorter { IfOk result (λ r. length r.1 < length tokens.entry) }
 {
@@ -293,18 +286,18 @@ pub(crate) fn items<'a>(
 ) -> Result<(Items<Item>, Option<RawPath>, Cursor<'a>), ReadError>
     ensures { (sets : List WrittenSet) →
         Reads bytes.now tokens.entry result (first_item sets)
-        (λ r. r.2) (λ r. at (formula (policy_of sets r.0 r.1 []) ∷ []) 0) }
+        (λ r. r.2) (λ r. awaiting (formula (policy_with sets r.0 r.1 []) ∷ []) 0) }
 {
     let mut items = Items::new(alloc);
     let mut rest = tokens;
     'items: loop {
         let (entry, others) = entry_of(alloc, bytes, rest)?;
         match entry {
-            Entry::Item(item, End::Item) => {
+            Entry::Item(item, Ending::Item) => {
                 items.push(item)?;
                 rest = others;
             }
-            Entry::Item(item, End::List) => {
+            Entry::Item(item, Ending::List) => {
                 items.push(item)?;
                 return Ok((items, None, others));
             }

@@ -1,16 +1,17 @@
 //! Path expressions.
 
 ghost use Rattle.std.specs.Prelude.{◌≡◌, ◌+◌, ◌<◌, ◌≤◌, ℕ, List, [], ◌∷◌, ◌++◌, IfOk, length, false};
+ghost use Rattle.policy_grammar.specs.declared.limits.TheConstants.{MAX_NESTING};
 ghost use Rattle.policy_grammar.specs.declared.written.RawPath.{RawPath};
 ghost use Rattle.policy_grammar.specs.Lexemes.{lexemes};
-ghost use Rattle.policy_grammar.specs.PathTexts.{cat_of, alt_of};
-ghost use Rattle.policy_grammar.specs.Machine.{Awaited, rep as rep_awaited, prim, reps, alts, path_bracket, whole_path, put_path, opens, run, at};
+ghost use Rattle.policy_grammar.specs.PathTexts.{one_or_cat, one_or_alt};
+ghost use Rattle.policy_grammar.specs.Machine.{Awaited, rep as rep_awaited, prim, reps, alts, path_bracket, whole_path, put_path, opens, run, awaiting};
 ghost use Rattle.policy_parser.specs.Goes.{Reads, IsInSequence, path_awaited, begins_list, stars_list};
 
 use crate::fault::ReadError;
 use crate::signs::text;
 use merlin_model::name::name_from;
-use merlin_text::{Cursor, Kind, Sign, Token};
+use merlin_text::{Cursor, Sign, Token, Kind};
 use policy_grammar::written::RawPath;
 use sqlite_items::{Boxed, Items};
 use std::alloc::Global;
@@ -18,8 +19,8 @@ use std::alloc::Global;
 /// Whether there are stars, and what follows them.
 fn stars<'a>(tokens: Cursor<'a>) -> (bool, Cursor<'a>)
     ensures goes { (bytes : List ℕ) (p : RawPath) (k : List Awaited) (n : ℕ) →
-        run (lexemes bytes tokens.entry) (at (prim p false ∷ k) n)
-        ≡ run (lexemes bytes result.1) (at (prim p result.0 ∷ k) n) }
+        run (lexemes bytes tokens.entry) (awaiting (prim p false ∷ k) n)
+        ≡ run (lexemes bytes result.1) (awaiting (prim p result.0 ∷ k) n) }
     ensures all { (bytes : List ℕ) → stars_list (lexemes bytes result.1) ≡ false }
     ensures shorter { length result.1 ≤ length tokens.entry }
 {
@@ -48,8 +49,8 @@ fn with_stars<'a>(
     tokens: Cursor<'a>,
 ) -> Result<(RawPath, Cursor<'a>), ReadError>
     ensures goes { (bytes : List ℕ) (k : List Awaited) (n : ℕ) → IsInSequence k →
-        Reads bytes tokens.entry result (at (prim path false ∷ k) n)
-        (λ r. r.1) (λ r. at (put_path r.0 k) n) }
+        Reads bytes tokens.entry result (awaiting (prim path false ∷ k) n)
+        (λ r. r.1) (λ r. awaiting (put_path r.0 k) n) }
     ensures shorter { IfOk result (λ r. length r.1 ≤ length tokens.entry) }
 {
     let (found, rest) = stars(tokens);
@@ -62,7 +63,7 @@ fn with_stars<'a>(
 
 /// One path is itself, several are a `Cat`.
 fn cat(mut parts: Items<RawPath>) -> RawPath
-    ensures { result ≡ cat_of parts }
+    ensures { result ≡ one_or_cat parts }
 {
     if parts.len() == 1 {
         if let Some(part) = parts.pop() {
@@ -74,7 +75,7 @@ fn cat(mut parts: Items<RawPath>) -> RawPath
 
 /// One path is itself, several are an `Alt`.
 fn alt(mut parts: Items<RawPath>) -> RawPath
-    ensures { result ≡ alt_of parts }
+    ensures { result ≡ one_or_alt parts }
 {
     if parts.len() == 1 {
         if let Some(part) = parts.pop() {
@@ -95,9 +96,9 @@ fn rep<'a>(
     room: usize,
     left: usize,
 ) -> Result<(RawPath, Cursor<'a>, usize), ReadError>
-    ensures goes { (k : List Awaited) → IsInSequence k → opens k + room ≡ 128 →
-        Reads bytes.now tokens.entry result (at (rep_awaited ∷ k) left)
-        (λ r. r.1) (λ r. at (put_path r.0 k) r.2) }
+    ensures goes { (k : List Awaited) → IsInSequence k → opens k + room ≡ MAX_NESTING →
+        Reads bytes.now tokens.entry result (awaiting (rep_awaited ∷ k) left)
+        (λ r. r.1) (λ r. awaiting (put_path r.0 k) r.2) }
     ensures shorter { IfOk result (λ r. length r.1 < length tokens.entry) }
 {
     if left == 0 {
@@ -136,9 +137,9 @@ fn group<'a>(
     room: usize,
     left: usize,
 ) -> Result<(RawPath, Cursor<'a>, usize), ReadError>
-    ensures goes { (k : List Awaited) → IsInSequence k → opens k + 1 + room ≡ 128 →
-        Reads bytes.now tokens.entry result (at (path_awaited (path_bracket ∷ k)) left)
-        (λ r. r.1) (λ r. at (put_path r.0 k) r.2) }
+    ensures goes { (k : List Awaited) → IsInSequence k → opens k + 1 + room ≡ MAX_NESTING →
+        Reads bytes.now tokens.entry result (awaiting (path_awaited (path_bracket ∷ k)) left)
+        (λ r. r.1) (λ r. awaiting (put_path r.0 k) r.2) }
     ensures shorter { IfOk result (λ r. length r.1 < length tokens.entry) }
 {
     let (path, rest, left) = path_of(alloc, bytes, tokens, room, left)?;
@@ -176,9 +177,9 @@ fn sequence<'a>(
     room: usize,
     left: usize,
 ) -> Result<(RawPath, Cursor<'a>, usize), ReadError>
-    ensures goes { (k : List Awaited) (ps : List RawPath) → opens k + room ≡ 128 →
-        Reads bytes.now tokens.entry result (at (rep_awaited ∷ reps [] ∷ alts ps ∷ k) left)
-        (λ r. r.1) (λ r. at (alts (ps ++ r.0 ∷ []) ∷ k) r.2) }
+    ensures goes { (k : List Awaited) (ps : List RawPath) → opens k + room ≡ MAX_NESTING →
+        Reads bytes.now tokens.entry result (awaiting (rep_awaited ∷ reps [] ∷ alts ps ∷ k) left)
+        (λ r. r.1) (λ r. awaiting (alts (ps ++ r.0 ∷ []) ∷ k) r.2) }
     ensures shorter { IfOk result (λ r. length r.1 < length tokens.entry) }
 {
     let mut parts = Items::new(alloc);
@@ -203,9 +204,9 @@ pub(crate) fn path_of<'a>(
     room: usize,
     left: usize,
 ) -> Result<(RawPath, Cursor<'a>, usize), ReadError>
-    ensures goes { (k : List Awaited) → opens k + room ≡ 128 →
-        Reads bytes.now tokens.entry result (at (path_awaited k) left)
-        (λ r. r.1) (λ r. at (whole_path r.0 ∷ k) r.2) }
+    ensures goes { (k : List Awaited) → opens k + room ≡ MAX_NESTING →
+        Reads bytes.now tokens.entry result (awaiting (path_awaited k) left)
+        (λ r. r.1) (λ r. awaiting (whole_path r.0 ∷ k) r.2) }
     ensures shorter { IfOk result (λ r. length r.1 < length tokens.entry) }
 {
     let mut parts = Items::new(alloc);

@@ -5,15 +5,16 @@ ghost use Rattle.merlin_model.specs.declared.policy.Pred.{Pred, Test as Tests};
 ghost use Rattle.merlin_model.specs.declared.policy.Test.{Test};
 ghost use Rattle.merlin_model.specs.declared.policy.Test.TheVariants.{Port};
 ghost use Rattle.merlin_text.specs.declared.token.Sign.TheVariants as signs;
+ghost use Rattle.policy_grammar.specs.declared.limits.TheConstants.{MAX_NESTING};
 ghost use Rattle.policy_grammar.specs.Lexemes.{lexeme};
 ghost use Rattle.policy_grammar.specs.Predicates.{test_of, block_test as test_of_block, all_of, any_of};
-ghost use Rattle.policy_grammar.specs.Machine.{Awaited, this_sign, literal as literal_awaited, lits, conjs, whole_pred, bracket, second, value_of, is_first as is_first_name, field_at, put, opens, at};
+ghost use Rattle.policy_grammar.specs.Machine.{Awaited, this_sign, literal as literal_awaited, lits, conjs, whole_pred, bracket, second, value_of, is_first as is_first_name, field_at, put, opens, awaiting};
 ghost use Rattle.policy_parser.specs.Goes.{Reads, IsSyntax, pred_awaited};
 
 use crate::fault::ReadError;
 use crate::signs::{sign_at, text};
 use merlin_model::policy::{Field, Pred, Test};
-use merlin_text::{Cursor, Kind, Sign, Token, Word};
+use merlin_text::{Cursor, Sign, Token, Kind, Word};
 use policy_grammar::written::Tested;
 use sqlite_items::{Boxed, Items};
 use std::alloc::Global;
@@ -129,8 +130,8 @@ fn field_part<'a>(
     tokens: Cursor<'a>,
 ) -> Result<(Tested, Cursor<'a>), ReadError>
     ensures goes { (k : List Awaited) (n : ℕ) →
-        Reads bytes.now tokens.entry result (at (second first.now ∷ k) n)
-        (λ r. r.1) (λ r. at (this_sign signs.Equals ∷ value_of r.0 ∷ k) n) }
+        Reads bytes.now tokens.entry result (awaiting (second first.now ∷ k) n)
+        (λ r. r.1) (λ r. awaiting (this_sign signs.Equals ∷ value_of r.0 ∷ k) n) }
     ensures shorter { IfOk result (λ r. length r.1 < length tokens.entry) }
     ensures no_memory { IfErr result IsSyntax }
 {
@@ -148,8 +149,8 @@ fn field_part<'a>(
 
 fn value_part<'a>(field: Tested, tokens: Cursor<'a>) -> Result<(Test, Cursor<'a>), ReadError>
     ensures goes { (bytes : List ℕ) (k : List Awaited) (n : ℕ) →
-        Reads bytes tokens.entry result (at (value_of field ∷ k) n)
-        (λ r. r.1) (λ r. at (put (Tests r.0) k) n) }
+        Reads bytes tokens.entry result (awaiting (value_of field ∷ k) n)
+        (λ r. r.1) (λ r. awaiting (put (Tests r.0) k) n) }
     ensures shorter { IfOk result (λ r. length r.1 < length tokens.entry) }
     ensures no_memory { IfErr result IsSyntax }
 {
@@ -169,8 +170,8 @@ fn test_after<'a>(
     tokens: Cursor<'a>,
 ) -> Result<(Test, Cursor<'a>), ReadError>
     ensures goes { (k : List Awaited) (n : ℕ) →
-        Reads bytes.now tokens.entry result (at (this_sign signs.Dot ∷ second first.now ∷ k) n)
-        (λ r. r.1) (λ r. at (put (Tests r.0) k) n) }
+        Reads bytes.now tokens.entry result (awaiting (this_sign signs.Dot ∷ second first.now ∷ k) n)
+        (λ r. r.1) (λ r. awaiting (put (Tests r.0) k) n) }
     ensures shorter { IfOk result (λ r. length r.1 < length tokens.entry) }
     ensures no_memory { IfErr result IsSyntax }
 {
@@ -207,8 +208,8 @@ fn any(mut parts: Items<Pred>) -> Pred
 /// What follows the bracket that closes a predicate.
 fn after_bracket<'a>(tokens: Cursor<'a>) -> Result<Cursor<'a>, ReadError>
     ensures goes { (bytes : List ℕ) (pred : Pred) (k : List Awaited) (n : ℕ) →
-        Reads bytes tokens.entry result (at (whole_pred pred ∷ bracket ∷ k) n)
-        (λ r. r) (λ r. at (put pred k) n) }
+        Reads bytes tokens.entry result (awaiting (whole_pred pred ∷ bracket ∷ k) n)
+        (λ r. r) (λ r. awaiting (put pred k) n) }
     ensures shorter { IfOk result (λ r. length r < length tokens.entry) }
     ensures no_memory { IfErr result IsSyntax }
 {
@@ -231,9 +232,9 @@ fn literal<'a>(
     room: usize,
     left: usize,
 ) -> Result<(Pred, Cursor<'a>, usize), ReadError>
-    ensures goes { (k : List Awaited) → opens k + room ≡ 128 →
-        Reads bytes.now tokens.entry result (at (literal_awaited ∷ k) left)
-        (λ r. r.1) (λ r. at (put r.0 k) r.2) }
+    ensures goes { (k : List Awaited) → opens k + room ≡ MAX_NESTING →
+        Reads bytes.now tokens.entry result (awaiting (literal_awaited ∷ k) left)
+        (λ r. r.1) (λ r. awaiting (put r.0 k) r.2) }
     ensures shorter { IfOk result (λ r. length r.1 < length tokens.entry) }
 {
     let Some((first, rest)) = tokens.split_first() else {
@@ -267,10 +268,10 @@ fn conjunction<'a>(
     room: usize,
     left: usize,
 ) -> Result<(Pred, Cursor<'a>, usize), ReadError>
-    ensures goes { (k : List Awaited) (ps : List Pred) → opens k + room ≡ 128 →
+    ensures goes { (k : List Awaited) (ps : List Pred) → opens k + room ≡ MAX_NESTING →
         Reads bytes.now tokens.entry result
-        (at (literal_awaited ∷ lits [] ∷ conjs ps ∷ k) left)
-        (λ r. r.1) (λ r. at (conjs (ps ++ r.0 ∷ []) ∷ k) r.2) }
+        (awaiting (literal_awaited ∷ lits [] ∷ conjs ps ∷ k) left)
+        (λ r. r.1) (λ r. awaiting (conjs (ps ++ r.0 ∷ []) ∷ k) r.2) }
     ensures shorter { IfOk result (λ r. length r.1 < length tokens.entry) }
 {
     let mut parts = Items::new(alloc);
@@ -303,9 +304,9 @@ pub(crate) fn predicate<'a>(
     room: usize,
     left: usize,
 ) -> Result<(Pred, Cursor<'a>, usize), ReadError>
-    ensures goes { (k : List Awaited) → opens k + room ≡ 128 →
-        Reads bytes.now tokens.entry result (at (pred_awaited k) left)
-        (λ r. r.1) (λ r. at (whole_pred r.0 ∷ k) r.2) }
+    ensures goes { (k : List Awaited) → opens k + room ≡ MAX_NESTING →
+        Reads bytes.now tokens.entry result (awaiting (pred_awaited k) left)
+        (λ r. r.1) (λ r. awaiting (whole_pred r.0 ∷ k) r.2) }
     ensures shorter { IfOk result (λ r. length r.1 < length tokens.entry) }
 {
     let mut parts = Items::new(alloc);

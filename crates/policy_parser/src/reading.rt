@@ -1,6 +1,6 @@
 //! A whole policy from its tokens.
 
-ghost use Rattle.policy_grammar.specs.Machine.{start};
+ghost use Rattle.policy_grammar.specs.Machine.{first_state};
 ghost use Rattle.policy_parser.specs.Goes.{ReadsAll};
 
 use crate::fault::ReadError;
@@ -17,7 +17,7 @@ pub fn read_policy(
     bytes: &[u8],
     tokens: Cursor<'_>,
 ) -> Result<WrittenPolicy, ReadError>
-    ensures { ReadsAll bytes.now tokens.entry result start (λ policy. policy) }
+    ensures { ReadsAll bytes.now tokens.entry result first_state (λ policy. policy) }
 {
     let (sets, rest) = sets(alloc, bytes, tokens)?;
     let (items, default_path, rest) = items(alloc, bytes, rest)?;

@@ -3,13 +3,13 @@
 ghost use Rattle.std.specs.Prelude.{◌≡◌, ◌<◌, ℕ, List, [], ◌∷◌, ◌++◌, IfOk, IfErr, length};
 ghost use Rattle.policy_grammar.specs.declared.written.Literal.{Literal};
 ghost use Rattle.policy_grammar.specs.declared.written.WrittenSet.{WrittenSet};
-ghost use Rattle.policy_grammar.specs.Machine.{sets as sets_awaited, set_start, set_rest, set_more, with_set, at, start};
+ghost use Rattle.policy_grammar.specs.Machine.{sets as sets_awaited, set_start, set_rest, set_more, with_set, awaiting, first_state};
 ghost use Rattle.policy_parser.specs.Goes.{Reads, IsSyntax, set_awaited, first_item};
 
 use crate::fault::ReadError;
 use crate::signs::{sign_at, text};
 use merlin_model::name::name_from;
-use merlin_text::{Cursor, Kind, Sign, Token};
+use merlin_text::{Cursor, Sign, Token, Kind};
 use policy_grammar::written::{Literal, WrittenSet};
 use sqlite_items::Items;
 use std::alloc::Global;
@@ -18,8 +18,8 @@ use std::alloc::Global;
 fn literal_at<'a>(tokens: Cursor<'a>) -> Result<(Literal, Cursor<'a>), ReadError>
     ensures goes { (bytes : List ℕ) (sets : List WrittenSet) (name : List ℕ)
         (literals : List Literal) →
-        Reads bytes tokens.entry result (at (set_more sets name literals ∷ []) 0)
-        (λ r. r.1) (λ r. at (set_rest sets name (literals ++ r.0 ∷ []) ∷ []) 0) }
+        Reads bytes tokens.entry result (awaiting (set_more sets name literals ∷ []) 0)
+        (λ r. r.1) (λ r. awaiting (set_rest sets name (literals ++ r.0 ∷ []) ∷ []) 0) }
     ensures shorter { IfOk result (λ r. length r.1 < length tokens.entry) }
     ensures no_memory { IfErr result IsSyntax }
 {
@@ -39,8 +39,8 @@ fn literals<'a>(
     tokens: Cursor<'a>,
 ) -> Result<(Items<Literal>, Cursor<'a>), ReadError>
     ensures goes { (bytes : List ℕ) (ss : List WrittenSet) (name : List ℕ) →
-        Reads bytes tokens.entry result (at (set_start ss name ∷ []) 0)
-        (λ r. r.1) (λ r. at (sets_awaited (with_set ss name r.0) ∷ []) 0) }
+        Reads bytes tokens.entry result (awaiting (set_start ss name ∷ []) 0)
+        (λ r. r.1) (λ r. awaiting (sets_awaited (with_set ss name r.0) ∷ []) 0) }
     ensures shorter { IfOk result (λ r. length r.1 < length tokens.entry) }
 {
     let mut literals = Items::new(alloc);
@@ -77,8 +77,8 @@ fn set_after<'a>(
     tokens: Cursor<'a>,
 ) -> Result<(Items<Literal>, Cursor<'a>), ReadError>
     ensures goes { (bytes : List ℕ) (ss : List WrittenSet) (name : List ℕ) →
-        Reads bytes tokens.entry result (at (set_awaited ss name) 0)
-        (λ r. r.1) (λ r. at (sets_awaited (with_set ss name r.0) ∷ []) 0) }
+        Reads bytes tokens.entry result (awaiting (set_awaited ss name) 0)
+        (λ r. r.1) (λ r. awaiting (sets_awaited (with_set ss name r.0) ∷ []) 0) }
     ensures shorter { IfOk result (λ r. length r.1 < length tokens.entry) }
 {
     let rest = sign_at(Sign::Becomes, tokens)?;
@@ -92,7 +92,7 @@ pub(crate) fn sets<'a>(
     bytes: &[u8],
     tokens: Cursor<'a>,
 ) -> Result<(Items<WrittenSet>, Cursor<'a>), ReadError>
-    ensures { Reads bytes.now tokens.entry result start
+    ensures { Reads bytes.now tokens.entry result first_state
         (λ r. r.1) (λ r. first_item r.0) }
 {
     let mut sets = Items::new(alloc);

@@ -5,13 +5,13 @@ ghost use Rattle.merlin_model.specs.declared.policy.Bound.{Bound};
 ghost use Rattle.merlin_model.specs.declared.policy.Part.{Part};
 ghost use Rattle.merlin_text.specs.declared.token.Sign.TheVariants as signs;
 ghost use Rattle.policy_grammar.specs.declared.written.WrittenPolicy.{WrittenPolicy};
-ghost use Rattle.policy_grammar.specs.Machine.{Awaited, Head, Opened, this_sign, this_word, any_name, outer_set, inner_set, each_id, heading_of, limit, limit_rate, limit_rest, with_limit, term, leading, term_rate, terms_rest, with_term, sign_number, word_number, at};
+ghost use Rattle.policy_grammar.specs.Machine.{Awaited, Head, Opened, this_sign, this_word, any_name, outer_set, inner_set, each_id, heading_of, limit, limit_rate, limit_rest, with_limit, term, leading, term_rate, terms_rest, with_term, sign_number, word_number, awaiting};
 ghost use Rattle.policy_parser.specs.Goes.{Reads, IsSyntax, text_in, statement_awaited, each_id_awaited, closing};
 
 use crate::fault::ReadError;
 use merlin_model::name::{Name, name_from};
 use merlin_model::policy::Bound;
-use merlin_text::{Cursor, Kind, Sign, Span, Word};
+use merlin_text::{Cursor, Sign, Span, Kind, Word};
 use std::alloc::Global;
 
 /// The bytes of a token; none where its ends are none of the text.
@@ -40,8 +40,8 @@ fn number_of_word(word: Word) -> u8
 /// What follows this sign.
 pub(crate) fn sign_at<'a>(sign: Sign, tokens: Cursor<'a>) -> Result<Cursor<'a>, ReadError>
     ensures goes { (bytes : List ℕ) (k : List Awaited) (n : ℕ) →
-        Reads bytes tokens.entry result (at (this_sign sign ∷ k) n)
-        (λ r. r) (λ r. at k n) }
+        Reads bytes tokens.entry result (awaiting (this_sign sign ∷ k) n)
+        (λ r. r) (λ r. awaiting k n) }
     ensures shorter { IfOk result (λ r. length r < length tokens.entry) }
     ensures no_memory { IfErr result IsSyntax }
 {
@@ -57,8 +57,8 @@ pub(crate) fn sign_at<'a>(sign: Sign, tokens: Cursor<'a>) -> Result<Cursor<'a>, 
 /// What follows this word.
 pub(crate) fn word_at<'a>(word: Word, tokens: Cursor<'a>) -> Result<Cursor<'a>, ReadError>
     ensures goes { (bytes : List ℕ) (k : List Awaited) (n : ℕ) →
-        Reads bytes tokens.entry result (at (this_word word ∷ k) n)
-        (λ r. r) (λ r. at k n) }
+        Reads bytes tokens.entry result (awaiting (this_word word ∷ k) n)
+        (λ r. r) (λ r. awaiting k n) }
     ensures shorter { IfOk result (λ r. length r < length tokens.entry) }
     ensures no_memory { IfErr result IsSyntax }
 {
@@ -74,8 +74,8 @@ pub(crate) fn word_at<'a>(word: Word, tokens: Cursor<'a>) -> Result<Cursor<'a>, 
 /// What follows a name, whatever it is.
 pub(crate) fn any_name_at<'a>(tokens: Cursor<'a>) -> Result<Cursor<'a>, ReadError>
     ensures goes { (bytes : List ℕ) (k : List Awaited) (n : ℕ) →
-        Reads bytes tokens.entry result (at (any_name ∷ k) n)
-        (λ r. r) (λ r. at k n) }
+        Reads bytes tokens.entry result (awaiting (any_name ∷ k) n)
+        (λ r. r) (λ r. awaiting k n) }
     ensures shorter { IfOk result (λ r. length r < length tokens.entry) }
     ensures no_memory { IfErr result IsSyntax }
 {
@@ -95,13 +95,13 @@ pub(crate) fn name_at<'a>(
     tokens: Cursor<'a>,
 ) -> Result<(Name, Cursor<'a>), ReadError>
     ensures outer { (h : Head) →
-        Reads bytes.now tokens.entry result (at (outer_set h ∷ []) 0)
-        (λ r. r.1) (λ r. at (this_sign signs.Comma ∷ inner_set h r.0 ∷ []) 0) }
+        Reads bytes.now tokens.entry result (awaiting (outer_set h ∷ []) 0)
+        (λ r. r.1) (λ r. awaiting (this_sign signs.Comma ∷ inner_set h r.0 ∷ []) 0) }
     ensures inner { (h : Head) (outer : List ℕ) →
-        Reads bytes.now tokens.entry result (at (inner_set h outer ∷ []) 0)
-        (λ r. r.1) (λ r. at (each_id_awaited h outer r.0) 0) }
+        Reads bytes.now tokens.entry result (awaiting (inner_set h outer ∷ []) 0)
+        (λ r. r.1) (λ r. awaiting (each_id_awaited h outer r.0) 0) }
     ensures id { (h : Head) (outer inner : List ℕ) →
-        Reads bytes.now tokens.entry result (at (each_id h outer inner ∷ []) 0)
+        Reads bytes.now tokens.entry result (awaiting (each_id h outer inner ∷ []) 0)
         (λ r. r.1) (λ r. statement_awaited (heading_of h (Some (outer, inner)) r.0)) }
     ensures shorter { IfOk result (λ r. length r.1 < length tokens.entry) }
 {
@@ -117,11 +117,11 @@ pub(crate) fn name_at<'a>(
 /// The bound of a limit or a term, and what follows it.
 pub(crate) fn bound_at<'a>(tokens: Cursor<'a>) -> Result<(Bound, Cursor<'a>), ReadError>
     ensures limit { (bytes : List ℕ) (o : Opened) →
-        Reads bytes tokens.entry result (at (limit o ∷ []) 0)
-        (λ r. r.1) (λ r. at (this_sign signs.OpenGroup ∷ limit_rate o r.0 ∷ []) 0) }
+        Reads bytes tokens.entry result (awaiting (limit o ∷ []) 0)
+        (λ r. r.1) (λ r. awaiting (this_sign signs.OpenGroup ∷ limit_rate o r.0 ∷ []) 0) }
     ensures term { (bytes : List ℕ) (w : WrittenPolicy) →
-        Reads bytes tokens.entry result (at (term w ∷ []) 0)
-        (λ r. r.1) (λ r. at (this_sign signs.OpenGroup ∷ leading w r.0 [] ∷ []) 0) }
+        Reads bytes tokens.entry result (awaiting (term w ∷ []) 0)
+        (λ r. r.1) (λ r. awaiting (this_sign signs.OpenGroup ∷ leading w r.0 [] ∷ []) 0) }
     ensures shorter { IfOk result (λ r. length r.1 < length tokens.entry) }
     ensures no_memory { IfErr result IsSyntax }
 {
@@ -138,10 +138,10 @@ pub(crate) fn bound_at<'a>(tokens: Cursor<'a>) -> Result<(Bound, Cursor<'a>), Re
 /// The rate of a limit or a term, and what follows it.
 pub(crate) fn rate_at<'a>(tokens: Cursor<'a>) -> Result<(u64, Cursor<'a>), ReadError>
     ensures limit { (bytes : List ℕ) (o : Opened) (b : Bound) →
-        Reads bytes tokens.entry result (at (limit_rate o b ∷ []) 0)
+        Reads bytes tokens.entry result (awaiting (limit_rate o b ∷ []) 0)
         (λ r. r.1) (λ r. closing (limit_rest (with_limit o b r.0))) }
     ensures term { (bytes : List ℕ) (w : WrittenPolicy) (b : Bound) (parts : List Part) →
-        Reads bytes tokens.entry result (at (term_rate w b parts ∷ []) 0)
+        Reads bytes tokens.entry result (awaiting (term_rate w b parts ∷ []) 0)
         (λ r. r.1) (λ r. closing (terms_rest (with_term w b parts r.0))) }
     ensures shorter { IfOk result (λ r. length r.1 < length tokens.entry) }
     ensures no_memory { IfErr result IsSyntax }

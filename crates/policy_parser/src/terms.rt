@@ -9,14 +9,14 @@ ghost use Rattle.policy_grammar.specs.declared.written.RawPath.{RawPath};
 ghost use Rattle.policy_grammar.specs.declared.written.WrittenPolicy.{WrittenPolicy};
 ghost use Rattle.policy_grammar.specs.declared.written.WrittenSet.{WrittenSet};
 ghost use Rattle.policy_grammar.specs.Lexemes.{lexemes};
-ghost use Rattle.policy_grammar.specs.Machine.{formula, terms_rest, term as term_awaited, leading, sum_rest, summand, term_rate, with_term, run, at};
-ghost use Rattle.policy_parser.specs.Goes.{Goes, Reads, ReadsAll, IsSyntax, policy_of, more_terms};
+ghost use Rattle.policy_grammar.specs.Machine.{formula, terms_rest, term as term_awaited, leading, sum_rest, summand, term_rate, with_term, run, awaiting};
+ghost use Rattle.policy_parser.specs.Goes.{Goes, Reads, ReadsAll, IsSyntax, policy_with, more_terms};
 
 use crate::fault::ReadError;
 use crate::signs::{bound_at, rate_at, sign_at, text};
 use merlin_model::name::name_from;
 use merlin_model::policy::{Part, Term};
-use merlin_text::{Cursor, Kind, Sign, Word};
+use merlin_text::{Cursor, Sign, Kind, Word};
 use sqlite_items::Items;
 use std::alloc::Global;
 
@@ -27,8 +27,8 @@ fn leading_part<'a>(
     tokens: Cursor<'a>,
 ) -> Result<(Items<Part>, Cursor<'a>), ReadError>
     ensures goes { (w : WrittenPolicy) (b : Bound) →
-        Reads bytes.now tokens.entry result (at (leading w b [] ∷ []) 0)
-        (λ r. r.1) (λ r. at (sum_rest w b r.0 ∷ []) 0) }
+        Reads bytes.now tokens.entry result (awaiting (leading w b [] ∷ []) 0)
+        (λ r. r.1) (λ r. awaiting (sum_rest w b r.0 ∷ []) 0) }
     ensures shorter { IfOk result (λ r. length r.1 < length tokens.entry) }
 {
     let mut parts = Items::new(alloc);
@@ -58,8 +58,8 @@ fn summand_at<'a>(
     tokens: Cursor<'a>,
 ) -> Result<(Part, Cursor<'a>), ReadError>
     ensures goes { (w : WrittenPolicy) (b : Bound) (parts : List Part) →
-        Reads bytes.now tokens.entry result (at (summand w b parts ∷ []) 0)
-        (λ r. r.1) (λ r. at (sum_rest w b (parts ++ r.0 ∷ []) ∷ []) 0) }
+        Reads bytes.now tokens.entry result (awaiting (summand w b parts ∷ []) 0)
+        (λ r. r.1) (λ r. awaiting (sum_rest w b (parts ++ r.0 ∷ []) ∷ []) 0) }
     ensures shorter { IfOk result (λ r. length r.1 < length tokens.entry) }
 {
     let Some((first, rest)) = tokens.split_first() else {
@@ -79,8 +79,8 @@ fn sum<'a>(
     tokens: Cursor<'a>,
 ) -> Result<(Items<Part>, Cursor<'a>), ReadError>
     ensures goes { (w : WrittenPolicy) (b : Bound) →
-        Reads bytes.now tokens.entry result (at (leading w b [] ∷ []) 0)
-        (λ r. r.1) (λ r. at (term_rate w b r.0 ∷ []) 0) }
+        Reads bytes.now tokens.entry result (awaiting (leading w b [] ∷ []) 0)
+        (λ r. r.1) (λ r. awaiting (term_rate w b r.0 ∷ []) 0) }
     ensures shorter { IfOk result (λ r. length r.1 < length tokens.entry) }
 {
     let (mut parts, mut rest) = leading_part(alloc, bytes, tokens)?;
@@ -107,8 +107,8 @@ fn term<'a>(
     tokens: Cursor<'a>,
 ) -> Result<(Term, Cursor<'a>), ReadError>
     ensures goes { (w : WrittenPolicy) →
-        Reads bytes.now tokens.entry result (at (term_awaited w ∷ []) 0)
-        (λ r. r.1) (λ r. at (terms_rest (with_term w r.0.bound r.0.parts r.0.rate) ∷ []) 0) }
+        Reads bytes.now tokens.entry result (awaiting (term_awaited w ∷ []) 0)
+        (λ r. r.1) (λ r. awaiting (terms_rest (with_term w r.0.bound r.0.parts r.0.rate) ∷ []) 0) }
     ensures shorter { IfOk result (λ r. length r.1 < length tokens.entry) }
 {
     let (bound, rest) = bound_at(tokens)?;
@@ -123,7 +123,7 @@ fn term<'a>(
 fn next_term<'a>(tokens: Cursor<'a>) -> Result<Option<Cursor<'a>>, ReadError>
     ensures goes { (bytes : List ℕ) (w : WrittenPolicy) →
         Goes result (more_terms bytes w)
-        (run (lexemes bytes tokens.entry) (at (terms_rest w ∷ []) 0)) }
+        (run (lexemes bytes tokens.entry) (awaiting (terms_rest w ∷ []) 0)) }
     ensures shorter { IfOk result (λ r. IfSome r (λ rest. length rest < length tokens.entry)) }
     ensures no_memory { IfErr result IsSyntax }
 {
@@ -144,8 +144,8 @@ fn terms_after<'a>(
 ) -> Result<Items<Term>, ReadError>
     ensures { (sets : List WrittenSet) (items : List Item) (default : Option RawPath) →
         ReadsAll bytes.now tokens.entry result
-        (at (term_awaited (policy_of sets items default []) ∷ []) 0)
-        (policy_of sets items default) }
+        (awaiting (term_awaited (policy_with sets items default []) ∷ []) 0)
+        (policy_with sets items default) }
 {
     let mut terms = Items::new(alloc);
     let mut rest = tokens;
@@ -167,7 +167,7 @@ pub(crate) fn formula_of<'a>(
 ) -> Result<Items<Term>, ReadError>
     ensures { (sets : List WrittenSet) (items : List Item) (default : Option RawPath) →
         ReadsAll bytes.now tokens.entry result
-        (at (formula (policy_of sets items default []) ∷ []) 0) (policy_of sets items default) }
+        (awaiting (formula (policy_with sets items default []) ∷ []) 0) (policy_with sets items default) }
 {
     let Some((first, rest)) = tokens.split_first() else {
         return Ok(Items::new(alloc));

@@ -1,12 +1,21 @@
-//! Predicates on packets, and which packets they hold of.
+//! Predicates on packets: which packets they hold of, what is left of them when a field of the packet is fixed, and which values they mention.
 #![tactic(auto)]
 
 ghost use Rattle.std.specs.Prelude.{◌≡◌};
 ghost use Rattle.std.specs.List.{list_all, list_any};
 ghost use Rattle.merlin_model.specs.Predicates.{passes, first_bits as first_bits_of, holds as holds_of};
 
+mod mentions;
+mod residues;
+mod same;
+
+pub use mentions::{
+    ascending, collect, collect_all, collect_all_prefixes, collect_prefixes, mentioned, prefixes,
+};
 pub use merlin_model::policy::{Pred, Test};
 use packet_model::{Field, Packet};
+pub use residues::partial;
+pub use same::{alike, all_alike};
 
 /// Whether the predicate holds of the packet.
 #[cycle(holds)]
@@ -72,7 +81,7 @@ fn passes_test(test: Test, packet: &Packet) -> bool
 }
 
 /// The first bits of an IPv4 address, as many as the length says, as a number.
-fn first_bits(length: u8, address: u64) -> u64
+pub(crate) fn first_bits(length: u8, address: u64) -> u64
     ensures { result ≡ first_bits_of length address }
 {
     address >> 32u8.saturating_sub(length)

@@ -1,13 +1,12 @@
 -- The pieces of a printed formula.
-use Rattle.std.proofs.Common.{◌≡◌, ◌≢◌, ◌<◌, ◌≤◌, ◌^◌, ◌⊎◌, inl, inr, ℕ, zero, suc, None, Some, List, [], ◌∷◌, ◌++◌, length, get_or, flat_map, codes, refl, sym, ap, ◌∙◌, subst, arith, lit<, lit≤, append_assoc}
+use Rattle.std.proofs.Common.{◌≡◌, ◌≢◌, ◌<◌, ◌≤◌, ◌⊎◌, inl, inr, ℕ, None, Some, List, [], ◌∷◌, ◌++◌, length, flat_map, codes, refl, sym, ap, ◌∙◌, subst, arith, lit<, lit≤, append_assoc}
 use Rattle.std.specs.List.{AllByRecursion, join_by}
 use Rattle.std.specs.Fmt.{decimal}
 use Rattle.std.proofs.lemmas.List.{append-nil}
 use Rattle.std.proofs.lemmas.Grind.{flat_map-append}
-use Rattle.std.proofs.lemmas.List.Elements.{All-nil, All-cons, All-head, All-tail, All-from_recursion, recursion_from_All}
-use Rattle.std.proofs.lemmas.Str.Parse.{IsNumeralModel, numerals_by_weight}
-use Rattle.std.proofs.lemmas.Fmt.{digits_decimal, digits_value-decimal, decimal_nonempty, decimal_digit, first_decimal, length-decimal-le}
-use Rattle.merlin_base.specs.Lexemes.{IsLetter, IsDigit, IsNameByte, AreDigits, number_of, IsDecimal, IsName, IsRate, IsMac}
+use Rattle.std.proofs.lemmas.List.Elements.{All-from_recursion, recursion_from_All}
+use Rattle.merlin_base.specs.Lexemes.{IsLetter, IsDigit, IsNameByte, IsDecimal, IsName, IsRate, IsMac}
+use Rattle.merlin_base.proofs.Decimals.{is_decimal}
 use Rattle.merlin_model.specs.declared.policy.Bound.{Bound}
 use Rattle.merlin_model.specs.declared.policy.Bound.TheVariants.{Max, Min}
 use Rattle.merlin_model.specs.declared.policy.Part.{Part}
@@ -18,10 +17,10 @@ use Rattle.merlin_text.specs.declared.token.Word.{Word}
 use Rattle.merlin_text.specs.declared.token.Word.TheVariants as words
 use Rattle.merlin_text.specs.declared.token.Sign.{Sign}
 use Rattle.merlin_text.specs.declared.token.Sign.TheVariants as signs
-use Rattle.merlin_text.specs.Tokens.{spelling, written, IsRunByte, EndsBefore, IsRun, BeginsNoMac, IsLexeme, Sort, gap, verbal, numeral, mac, sign as signed, sort_of, GoesTo, GivesWay, Piece, text_of, ArePieces}
+use Rattle.merlin_text.specs.Tokens.{spelling, written, IsRunByte, EndsBefore, IsRun, BeginsNoMac, IsLexeme, Sort, gap, verbal, numeral, mac, sign as signed, sort_of, IsExtent, GivesWay, Piece, text_of, ArePieces}
 use Rattle.rate_formula.specs.FormulaText.{rate_text, part_text, bound_text, term_text, formula_text}
-use Rattle.rate_formula.specs.FormulaLexemes.{IsWritablePart, IsWritableTerm, IsWritable, part_lexeme, bound_word, term_lexemes, formula_lexemes, lexemes_of, HasLexemes}
-use Rattle.merlin_text.specs.Lexemes.{lexeme_at, word as word_lexeme, sign as sign_lexeme}
+use Rattle.rate_formula.specs.FormulaLexemes.{IsWritablePart, IsWritableTerm, IsWritable, part_lexeme, term_lexemes, formula_lexemes, lexemes_of, HasLexemes}
+use Rattle.merlin_text.specs.Lexemes.{lexeme_at, bound_word, word as word_lexeme, sign as sign_lexeme}
 
 -- The pieces: lexemes, with a blank on each side of `+` and `and` and after a comma.
 
@@ -143,7 +142,7 @@ gives_way signed text free = free
 
 abbrev AreLocal : List Piece → List ℕ → Type 0
 AreLocal [] rest = Unit {0}
-AreLocal (p ∷ ps) rest = IsLexeme p.0 p.1 × GoesTo (sort_of p.0) p.1 (text_of ps ++ rest) × NoColon p.1 × AreLocal ps rest
+AreLocal (p ∷ ps) rest = IsLexeme p.0 p.1 × IsExtent (sort_of p.0) p.1 (text_of ps ++ rest) × NoColon p.1 × AreLocal ps rest
 
 lawful : (ps : List Piece) (rest : List ℕ) → NoColon rest → AreLocal ps rest → ArePieces ps rest × NoColon (text_of ps ++ rest)
 lawful [] rest free h = (tt, free)
@@ -157,7 +156,7 @@ lawful (p ∷ ps) rest free (lexeme, goes, own, more) =
 AreLocal-append : (ps qs : List Piece) (rest : List ℕ) → AreLocal ps (text_of qs ++ rest) → AreLocal qs rest → AreLocal (ps ++ qs) rest
 AreLocal-append [] qs rest h k = k
 AreLocal-append (p ∷ ps) qs rest (lexeme, goes, own, more) k =
-    (lexeme, subst (λ text. GoesTo (sort_of p.0) p.1 text) (sym (ap (λ text. text ++ rest) (text_of-append ps qs) ∙ append_assoc (text_of ps) (text_of qs) rest)) goes, own, AreLocal-append ps qs rest more k)
+    (lexeme, subst (λ text. IsExtent (sort_of p.0) p.1 text) (sym (ap (λ text. text ++ rest) (text_of-append ps qs) ∙ append_assoc (text_of ps) (text_of qs) rest)) goes, own, AreLocal-append ps qs rest more k)
 
 -- A byte below `.` ends a name and a number.
 
@@ -217,25 +216,8 @@ name_run (c ∷ cs) rest is stops =
     colons [] h = tt
     colons (d ∷ ds) h = (name_byte_no_colon d h.0, colons ds h.1)
 
-numerals : IsNumeralModel AreDigits number_of
-numerals =
-    numerals_by_weight AreDigits
-    (record { empty = All-nil IsDigit; parts = λ c cs h. (All-head IsDigit c cs h, All-tail IsDigit c cs h); more = λ c cs h k. All-cons IsDigit c cs h k })
-    number_of
-    (record { empty = refl; more = λ c cs h. refl })
-
-first_digit : (n : ℕ) → n < 2 ^ 64 → get_or (decimal n) 0 0 ≡ 48 → length (decimal n) ≡ 1
-first_digit zero h e = ap length (decimal_digit 0 (lit< tt))
-first_digit (suc n) h e = absurd (omega (arith, first_decimal (suc n) (omega arith) h))
-
 decimal_text : (n : ℕ) → n ≤ 1000000000 → IsDecimal (decimal n) n
-decimal_text n h = let fits : n < 2 ^ 64 = omega arith in record {
-  digits = digits_decimal numerals n fits;
-  some = decimal_nonempty n fits;
-  short = length-decimal-le 19 n (lit< tt) (omega arith) fits;
-  plain = first_digit n fits;
-  value = sym (digits_value-decimal numerals n fits);
-}
+decimal_text n h = is_decimal n (omega arith)
 
 is_rate : (rate : ℕ) → rate ≤ 1000000000 → IsRate (rate_text rate) rate
 is_rate rate h = record { number = decimal rate; unit = codes "kbps"; n = rate; factor = 1; whole = refl; decimal = decimal_text rate h; known = refl; value = omega arith; few = h }
@@ -265,7 +247,7 @@ one_byte c other e = let same : c ≡ 58 = cc in absurd (other same)
 
 -- Sums, terms and formulas.
 
-part_local : (part : Part) (rest : List ℕ) → IsWritablePart part → Stops rest → IsLexeme (part_piece part).0 (part_piece part).1 × GoesTo (sort_of (part_piece part).0) (part_piece part).1 rest × NoColon (part_piece part).1
+part_local : (part : Part) (rest : List ℕ) → IsWritablePart part → Stops rest → IsLexeme (part_piece part).0 (part_piece part).1 × IsExtent (sort_of (part_piece part).0) (part_piece part).1 rest × NoColon (part_piece part).1
 part_local (Id id) rest is stops = let run = name_run id rest is stops in (is, run.0, run.1)
 part_local (Constant rate) rest is stops = let run = rate_run rate rest is stops in (is_rate rate is, run.0, run.1)
 

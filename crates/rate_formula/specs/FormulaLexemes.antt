@@ -2,16 +2,13 @@
 use Rattle.std.specs.Prelude.{ℕ, ◌≡◌, ◌≤◌, List, [], ◌∷◌, ◌++◌}
 use Rattle.std.specs.List.{AllByRecursion, flat_map, join_by}
 use Rattle.merlin_base.specs.Lexemes.{IsName}
-use Rattle.merlin_model.specs.declared.policy.Bound.{Bound}
-use Rattle.merlin_model.specs.declared.policy.Bound.TheVariants.{Max, Min}
 use Rattle.merlin_model.specs.declared.policy.Part.{Part}
 use Rattle.merlin_model.specs.declared.policy.Part.TheVariants.{Id, Constant}
 use Rattle.merlin_model.specs.declared.policy.Term.{Term}
-use Rattle.merlin_text.specs.declared.token.Word.{Word}
 use Rattle.merlin_text.specs.declared.token.Word.TheVariants as words
 use Rattle.merlin_text.specs.declared.token.Sign.TheVariants as signs
 use Rattle.merlin_text.specs.Tokens.{Piece, text_of, ArePieces}
-use Rattle.merlin_text.specs.Lexemes.{Lexeme, name, word, sign, rate, lexeme_at}
+use Rattle.merlin_text.specs.Lexemes.{Lexeme, name, word, sign, rate, lexeme_at, bound_word}
 
 -- A policy text can stand for the formula: its ids are names, and its rates are within their limit.
 abbrev pub IsWritablePart : Part → Type 0
@@ -27,10 +24,6 @@ IsWritable terms = AllByRecursion IsWritableTerm terms
 abbrev pub part_lexeme : Part → Lexeme
 part_lexeme (Id id) = name id 0
 part_lexeme (Constant amount) = rate amount
-
-abbrev pub bound_word : Bound → Word
-bound_word Max = words.Max
-bound_word Min = words.Min
 
 -- `max ( x + y , 9kbps )`
 abbrev pub term_lexemes : Term → List Lexeme

@@ -3,12 +3,11 @@ use Rattle.std.proofs.Common.{◌≡◌, ◌≢◌, ℕ, zero, suc, ◌<◌, ◌
 use Rattle.std.proofs.lemmas.Bool.{eqb-true}
 use Rattle.std.specs.List.{AllByRecursion}
 use Rattle.merlin_model.specs.declared.network.HostAddress.{HostAddress}
-use Rattle.merlin_model.specs.declared.network.Kind.{Kind}
-use Rattle.merlin_model.specs.declared.network.Kind.TheVariants.{Host, Switch, Middlebox}
+use Rattle.merlin_model.specs.declared.network.LocationKind.{LocationKind}
+use Rattle.merlin_model.specs.declared.network.LocationKind.TheVariants.{Host, Switch, Middlebox}
 use Rattle.merlin_model.specs.declared.config.Config.{Config}
 use Rattle.merlin_model.specs.Packets.{Packet}
-use Rattle.merlin_model.specs.declared.network.DirectedLink.{DirectedLink}
-use Rattle.merlin_model.specs.Networks.{Network, kind_of, IsHost, address_at, address_of, directed_links}
+use Rattle.merlin_model.specs.Networks.{Network, kind_of, IsHost, address_at, address_of}
 use Rattle.merlin_model.specs.Words.{Stop, functions_of, visits}
 use Rattle.merlin_model.specs.Machine.{Forwards, Frame, Visit, End, Delivered, Stops, from_host, arrived_at, next_at, next, MayBecome, RunsWithin}
 use Rattle.merlin_model.specs.Headline.{stop_of, stop_at}
@@ -20,14 +19,14 @@ use Rattle.merlin_model.proofs.Members.{in_from}
 use Rattle.merlin_model.proofs.DirectedLinks.{port_pos}
 use Rattle.rules_model.proofs.Setting.{Setting, routing, After}
 use Rattle.rules_model.proofs.Grouping.{stops_from, visits-route}
-use Rattle.rules_model.proofs.Steps.{tag-same, hop-at, follows-at, StandsAt, GoesBy, step}
+use Rattle.rules_model.proofs.Steps.{tag-same, hop-at, follows-at, CameFromInside, StandsAt, GoesBy, step}
 use Rattle.rules_model.proofs.Absurd.{None-Some, false-true}
 
 -- more hops may be granted
 pub within-longer : (net : Network) (config : Config) (m n : ℕ) (f : Frame) (P : List Visit → End → Type 0) → m ≤ n → RunsWithin net config m f P → RunsWithin net config n f P
 within-longer net config m n f P le r = record { ends = λ visits g h. let short = r.ends visits g h in omega arith; outcome = r.outcome }
 
-pub keeps_dst : (o : Option Kind) (p q : Packet) → MayBecome o p q → q.eth_dst ≡ p.eth_dst
+pub keeps_dst : (o : Option LocationKind) (p q : Packet) → MayBecome o p q → q.eth_dst ≡ p.eth_dst
 keeps_dst None p q h = ap (λ x. x.eth_dst) h
 keeps_dst (Some (Host address)) p q h = ap (λ x. x.eth_dst) h
 keeps_dst (Some Switch) p q h = ap (λ x. x.eth_dst) h
@@ -37,7 +36,7 @@ keeps_dst (Some Middlebox) p q h = h.1
 pub arrives : (net : Network) (config : Config) (f : Frame) (d : ℕ) → IsHost net d → f.loc ≡ d → 0 < f.port → f.tag ≡ None → next net config f ≡ Stops (Delivered d f.packet)
 arrives net config f d host here port untagged = by (kind_of net f.loc) (subst (λ k. IsSome (address_of net k)) (sym here) host)
   where
-    by : (o : Option Kind) → IsSome (address_at o) → next_at net config f o ≡ Stops (Delivered d f.packet)
+    by : (o : Option LocationKind) → IsSome (address_at o) → next_at net config f o ≡ Stops (Delivered d f.packet)
     by None h = absurd (false-true h)
     by (Some Switch) h = absurd (false-true h)
     by (Some Middlebox) h = absurd (false-true h)
@@ -80,11 +79,7 @@ module _ (setting : Setting) where
     pub address : HostAddress
     pub dest : address_of setting.net d ≡ Some address
     pub eth : f.packet.eth_dst ≡ address.eth
-    pub link : DirectedLink
-    pub came : Contains (directed_links setting.net) link
-    pub to : link.to ≡ f.loc
-    pub port : link.in_port ≡ f.port
-    pub inner : ¬ IsHost setting.net link.from
+    pub came : CameFromInside setting f
 
   -- a frame that takes the hop of a vertex goes on at the onward vertex, or is delivered
   pub go_on : (n : ℕ) (f : Frame) (g d : ℕ) (v : Vertex) (us : List Vertex) (hop : Hop) (visit : Visit) (address : HostAddress) → After setting g d v us → ¬ IsHost setting.net (loc_of v) →
@@ -131,11 +126,7 @@ module _ (setting : Setting) where
             address = address;
             dest = dest;
             eth = same ∙ eth;
-            link = hop.link;
-            came = h.present;
-            to = refl;
-            port = refl;
-            inner = λ host. outside (subst (IsHost setting.net) h.starts host);
+            came = record { link = hop.link; present = h.present; to = refl; port = refl; inner = λ host. outside (subst (IsHost setting.net) h.starts host) };
           }))
 
   -- one hop on, given what follows at the onward vertex
@@ -167,11 +158,7 @@ module _ (setting : Setting) where
         loc = at.loc ∙ ap loc_of (sym found.4);
         tag = at.tag ∙ ap Some (tag-same setting g v at.number found.0.tag at.has_tag tag_here);
         eth = at.eth ∙ ap (λ a. a.eth) address-same ∙ sym r.eth;
-        link = at.link;
         came = at.came;
-        to = at.to;
-        port = at.port;
-        inner = at.inner;
       }
 
       hop : GoesBy setting f found.0

@@ -5,8 +5,8 @@ use Rattle.merlin_model.specs.Machine.{first_of}
 use Rattle.merlin_model.proofs.Ascending.{ascending-one}
 use Rattle.merlin_model.proofs.Members.{In, in_from, in_to}
 use Rattle.merlin_model.proofs.Traces.{Some-inj}
-use Rattle.rules_model.specs.Products.{Vertex, loc_of, start_of, LeadsToEnd, WrittenWalk, IsWrittenWalk, FollowsIn, AllowsWalkIn, Group, AreWrittenWalks, FollowsAt, AllowsWalkAt, start_at, start_in, queue_in}
-use Rattle.rules_model.specs.Tables.{TagKey, HasTag, Hop, IsHop, TableRow, HostPair, IsHostPair, IngressEntry, Plan, Cell, IsTableRow, IsIngressEntry, IsFirstHop, IsPlan, IsBelowKey, IsBelowRow, owned_by, IsInOrder, table_rules, table_processes}
+use Rattle.rules_model.specs.Products.{function_place, Vertex, loc_of, start_of, LeadsToEnd, WrittenWalk, IsWrittenWalk, FollowsIn, AllowsWalkIn, Group, AreWrittenWalks, FollowsAt, AllowsWalkAt, start_at, start_in, queue_in}
+use Rattle.rules_model.specs.Tables.{TagKey, HasTag, Hop, IsHop, TableRow, HostPair, IsHostPair, IngressEntry, Plan, Cell, IsTableRow, IsIngressEntry, IsFirstHop, IsPlan, IsBelow, IsBelowKey, IsBelowRow, owned_by, IsInOrder, table_rules, table_processes}
 use Rattle.rules_model.proofs.Routes.{one_from_host}
 use Rattle.rules_model.proofs.Setting.{Setting, routing}
 use Rattle.rules_model.proofs.Steps.{tag-same, row-one, hop-same}
@@ -14,33 +14,31 @@ use Rattle.rules_model.proofs.Trees.{tree-way, after-in}
 
 -- Orders.
 
+below-irreflexive : (x : ℕ × ℕ × ℕ) → ¬ IsBelow x x
+below-irreflexive x (inl h) = omega arith
+below-irreflexive x (inr (e, inl h)) = omega arith
+below-irreflexive x (inr (e, inr (f, h))) = omega arith
+
+below-transitive : (x y z : ℕ × ℕ × ℕ) → IsBelow x y → IsBelow y z → IsBelow x z
+below-transitive x y z (inl a) (inl b) = inl (omega arith)
+below-transitive x y z (inl a) (inr b) = inl (let e = b.0 in omega arith)
+below-transitive x y z (inr a) (inl b) = inl (let e = a.0 in omega arith)
+below-transitive x y z (inr (e, inl a)) (inr (f, inl b)) = inr (e ∙ f, inl (omega arith))
+below-transitive x y z (inr (e, inl a)) (inr (f, inr b)) = inr (e ∙ f, inl (let g = b.0 in omega arith))
+below-transitive x y z (inr (e, inr a)) (inr (f, inl b)) = inr (e ∙ f, inl (let g = a.0 in omega arith))
+below-transitive x y z (inr (e, inr a)) (inr (f, inr b)) = inr (e ∙ f, inr (a.0 ∙ b.0, (let m = a.1 in let n = b.1 in omega arith)))
+
 key-irreflexive : (x : TagKey) → ¬ IsBelowKey x x
-key-irreflexive x (inl h) = omega arith
-key-irreflexive x (inr (e, inl h)) = omega arith
-key-irreflexive x (inr (e, inr (f, h))) = omega arith
+key-irreflexive x = below-irreflexive (x.group, x.state, function_place x.fun)
 
 key-transitive : (x y z : TagKey) → IsBelowKey x y → IsBelowKey y z → IsBelowKey x z
-key-transitive x y z (inl a) (inl b) = inl (omega arith)
-key-transitive x y z (inl a) (inr b) = inl (let e = b.0 in omega arith)
-key-transitive x y z (inr a) (inl b) = inl (let e = a.0 in omega arith)
-key-transitive x y z (inr (e, inl a)) (inr (f, inl b)) = inr (e ∙ f, inl (omega arith))
-key-transitive x y z (inr (e, inl a)) (inr (f, inr b)) = inr (e ∙ f, inl (let g = b.0 in omega arith))
-key-transitive x y z (inr (e, inr a)) (inr (f, inl b)) = inr (e ∙ f, inl (let g = a.0 in omega arith))
-key-transitive x y z (inr (e, inr a)) (inr (f, inr b)) = inr (e ∙ f, inr (a.0 ∙ b.0, (let m = a.1 in let n = b.1 in omega arith)))
+key-transitive x y z = below-transitive (x.group, x.state, function_place x.fun) (y.group, y.state, function_place y.fun) (z.group, z.state, function_place z.fun)
 
 row-irreflexive : (x : TableRow) → ¬ IsBelowRow x x
-row-irreflexive x (inl h) = omega arith
-row-irreflexive x (inr (e, inl h)) = omega arith
-row-irreflexive x (inr (e, inr (f, h))) = omega arith
+row-irreflexive x = below-irreflexive (loc_of x.vertex, x.tag, x.dest)
 
 row-transitive : (x y z : TableRow) → IsBelowRow x y → IsBelowRow y z → IsBelowRow x z
-row-transitive x y z (inl a) (inl b) = inl (omega arith)
-row-transitive x y z (inl a) (inr b) = inl (let e = b.0 in omega arith)
-row-transitive x y z (inr a) (inl b) = inl (let e = a.0 in omega arith)
-row-transitive x y z (inr (e, inl a)) (inr (f, inl b)) = inr (e ∙ f, inl (omega arith))
-row-transitive x y z (inr (e, inl a)) (inr (f, inr b)) = inr (e ∙ f, inl (let g = b.0 in omega arith))
-row-transitive x y z (inr (e, inr a)) (inr (f, inl b)) = inr (e ∙ f, inl (let g = a.0 in omega arith))
-row-transitive x y z (inr (e, inr a)) (inr (f, inr b)) = inr (e ∙ f, inr (a.0 ∙ b.0, (let m = a.1 in let n = b.1 in omega arith)))
+row-transitive x y z = below-transitive (loc_of x.vertex, x.tag, x.dest) (loc_of y.vertex, y.tag, y.dest) (loc_of z.vertex, z.tag, z.dest)
 
 -- Lists.
 

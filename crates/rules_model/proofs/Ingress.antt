@@ -1,8 +1,8 @@
 -- The first two hops: from a host to its first switch, and there by a cell, or not at all.
 use Rattle.std.proofs.Common.{◌≡◌, ◌≢◌, ℕ, suc, ◌<◌, ◌≤◌, ◌==◌, ◌⊎◌, inl, inr, Bool, true, false, cond, ◌&&◌, List, [], ◌∷◌, ◌++◌, map, length, Contains, Option, None, Some, is_some, not, IsSome, refl, sym, ◌∙◌, ap, ap₂, subst, arith}
 use Rattle.std.proofs.lemmas.Bool.{eqb-true, eq-eqb}
-use Rattle.merlin_model.specs.declared.network.Kind.{Kind}
-use Rattle.merlin_model.specs.declared.network.Kind.TheVariants.{Host, Switch, Middlebox}
+use Rattle.merlin_model.specs.declared.network.LocationKind.{LocationKind}
+use Rattle.merlin_model.specs.declared.network.LocationKind.TheVariants.{Host, Switch, Middlebox}
 use Rattle.merlin_model.specs.declared.config.Rule.{Rule}
 use Rattle.merlin_model.specs.declared.config.Out.{Out}
 use Rattle.merlin_model.specs.declared.config.Out.TheVariants.{Port}
@@ -177,7 +177,7 @@ module _ (setting : Setting) where
           ap (λ b. cond b (Stops (Dropped s)) (send_over s (uplink_of setting.net s) None (host_visit s p))) undropped
           ∙ ap (λ o. send_over s o None (host_visit s p)) (uplink_of_host s host).first
 
-      by : (o : Option Kind) → IsSome (address_at o) → next_at setting.net setting.config (start s p) o ≡ Forwards (uplink_of_host s host).link None (host_visit s p)
+      by : (o : Option LocationKind) → IsSome (address_at o) → next_at setting.net setting.config (start s p) o ≡ Forwards (uplink_of_host s host).link None (host_visit s p)
       by None h = absurd (false-true h)
       by (Some Switch) h = absurd (false-true h)
       by (Some Middlebox) h = absurd (false-true h)
@@ -187,7 +187,7 @@ module _ (setting : Setting) where
   pub host_drops : (s : ℕ) (p : Packet) → IsHost setting.net s → is_dropped_by setting.config.hosts s p ≡ true → next setting.net setting.config (start s p) ≡ Stops (Dropped s)
   host_drops s p host drop = by (kind_of setting.net s) host
     where
-      by : (o : Option Kind) → IsSome (address_at o) → next_at setting.net setting.config (start s p) o ≡ Stops (Dropped s)
+      by : (o : Option LocationKind) → IsSome (address_at o) → next_at setting.net setting.config (start s p) o ≡ Stops (Dropped s)
       by None h = absurd (false-true h)
       by (Some Switch) h = absurd (false-true h)
       by (Some Middlebox) h = absurd (false-true h)

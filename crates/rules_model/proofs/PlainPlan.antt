@@ -3,8 +3,8 @@ use Rattle.std.proofs.Common.{List, ◌≡◌, ◌≢◌, ℕ, ◌<◌, ◌==◌
 use Rattle.std.proofs.lemmas.Bool.{eqb-true, eq-eqb}
 use Rattle.std.specs.List.{flat_map, range_with_len}
 use Rattle.merlin_model.specs.declared.network.HostAddress.{HostAddress}
-use Rattle.merlin_model.specs.declared.network.Kind.{Kind}
-use Rattle.merlin_model.specs.declared.network.Kind.TheVariants.{Host, Switch, Middlebox}
+use Rattle.merlin_model.specs.declared.network.LocationKind.{LocationKind}
+use Rattle.merlin_model.specs.declared.network.LocationKind.TheVariants.{Host, Switch, Middlebox}
 use Rattle.merlin_model.specs.declared.network.DirectedLink.{DirectedLink}
 use Rattle.merlin_model.specs.Networks.{Network, kind_of, address_at, address_of, IsHost, IsSwitch, directed_links, links_from, IsNetwork, Pairwise}
 use Rattle.merlin_model.specs.Machine.{uplink_of}
@@ -42,7 +42,7 @@ switch-in net v here = filter_in (λ loc. is_switch_kind (kind_of net loc)) (ran
 pub in-switch : (net : Network) (v : ℕ) → In v (all_switches net) → IsSwitch net v
 in-switch net v h = by (kind_of net v) (in_filter (λ loc. is_switch_kind (kind_of net loc)) (range_with_len 0 (length net.locations)) v h).1
   where
-    by : (o : Option Kind) → is_switch_kind o ≡ true → o ≡ Some Switch
+    by : (o : Option LocationKind) → is_switch_kind o ≡ true → o ≡ Some Switch
     by None e = absurd (false-true e)
     by (Some (Host address)) e = absurd (false-true e)
     by (Some Switch) e = refl
@@ -96,7 +96,7 @@ module _ (net : Network) (ok : IsNetwork net) where
   pub attached_host-of : (h : ℕ) → IsHost net h → HasAttachedHost h
   attached_host-of h host = by (kind_of net h) refl host
     where
-      by : (o : Option Kind) → kind_of net h ≡ o → IsSome (address_at o) → HasAttachedHost h
+      by : (o : Option LocationKind) → kind_of net h ≡ o → IsSome (address_at o) → HasAttachedHost h
       by None e i = absurd (false-true i)
       by (Some Switch) e i = absurd (false-true i)
       by (Some Middlebox) e i = absurd (false-true i)

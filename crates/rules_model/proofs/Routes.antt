@@ -1,8 +1,8 @@
 -- Routes, distances and levels over hosts and switches.
 use Rattle.std.proofs.Common.{◌≡◌, ℕ, zero, suc, ◌<◌, ◌≤◌, ◌⊎◌, inl, inr, List, [], ◌∷◌, length, Contains, Option, None, Some, option_map, slice_get, get_or, IsSome, refl, sym, ◌∙◌, ap, subst, arith}
 use Rattle.std.proofs.lemmas.Option.{slice_get_cases}
-use Rattle.merlin_model.specs.declared.network.Kind.{Kind}
-use Rattle.merlin_model.specs.declared.network.Kind.TheVariants.{Host, Switch, Middlebox}
+use Rattle.merlin_model.specs.declared.network.LocationKind.{LocationKind}
+use Rattle.merlin_model.specs.declared.network.LocationKind.TheVariants.{Host, Switch, Middlebox}
 use Rattle.merlin_model.specs.declared.network.Location.{Location}
 use Rattle.merlin_model.specs.declared.network.DirectedLink.{DirectedLink}
 use Rattle.merlin_model.specs.Networks.{Network, kind_of, address_at, IsHost, IsSwitch, directed_links, back_of, IsNetwork}
@@ -20,7 +20,7 @@ Switch-Host e = cc
 pub switch-no_host : (net : Network) (v : ℕ) → IsSwitch net v → IsHost net v → ⊥
 switch-no_host net v here host = by (kind_of net v) here host
   where
-    by : (o : Option Kind) → o ≡ Some Switch → IsSome (address_at o) → ⊥
+    by : (o : Option LocationKind) → o ≡ Some Switch → IsSome (address_at o) → ⊥
     by None e h = None-Some e
     by (Some (Host address)) e h = Switch-Host (sym e)
     by (Some Switch) e h = let no_way : ⊥ = cc in no_way
@@ -76,7 +76,7 @@ module _ (net : Network) (ok : IsNetwork net) where
     pub inner-switch : (w : DirectedLink) → Contains (directed_links net) w → (¬ IsHost net w.to) → IsSwitch net w.to
     inner-switch w c inner = by (kind_of net w.to) refl
       where
-        by : (o : Option Kind) → kind_of net w.to ≡ o → IsSwitch net w.to
+        by : (o : Option LocationKind) → kind_of net w.to ≡ o → IsSwitch net w.to
         by None e = absurd (has_kind net w.to (all_in _ (directed_links net) (back_of w) ok.ends (in_from (directed_links net) (back_of w) (way_back net w c))).0 e)
         by (Some (Host address)) e = absurd (inner (subst (λ o. IsSome (address_at o)) (sym e) refl))
         by (Some Switch) e = e
@@ -148,7 +148,7 @@ module _ (net : Network) (ok : IsNetwork net) where
                   let same : m.0 ≡ h.left = distance-same net d other.to m.0 h.left (level-distance other.to m.0 there m.1) near in
                   m.1 ∙ ap Some same
 
-              by : (o : Option Kind) → kind_of net other.to ≡ o → level other.to ≡ Some h.left
+              by : (o : Option LocationKind) → kind_of net other.to ≡ o → level other.to ≡ Some h.left
               by None e = placed (inl (inner-switch other c (λ host. None-host (subst (λ o. IsSome (address_at o)) e host))))
                 where
                   None-host : IsSome (address_at None) → ⊥

@@ -2,7 +2,7 @@
 use Rattle.std.proofs.Common.{◌≡◌, ℕ, zero, suc, ◌<◌, ◌≤◌, ◌⊎◌, inl, inr, List, [], ◌∷◌, ◌++◌, length, Contains, Option, None, Some, MatchOption, refl, sym, ◌∙◌, ap, subst, arith}
 use Rattle.std.proofs.lemmas.Bool.{cases_lt}
 use Rattle.std.specs.Bool.{⊤}
-use Rattle.merlin_model.specs.declared.network.Kind.{Kind}
+use Rattle.merlin_model.specs.declared.network.LocationKind.{LocationKind}
 use Rattle.merlin_model.specs.declared.network.DirectedLink.{DirectedLink}
 use Rattle.merlin_model.specs.declared.policy.Symbol.{Symbol}
 use Rattle.merlin_model.specs.Networks.{Network, kind_of, places_of, AreLinked, IsHost, IsSwitch, directed_links, back_of, IsNetwork}
@@ -27,7 +27,7 @@ module _ (net : Network) (ok : IsNetwork net) (flat : HasNoMiddlebox net) where
       in_places f None e h = h
       in_places f (Some places) e h = flat x.loc (at_middlebox-only net ok f x.loc places e h)
 
-      by : (o : Option Kind) (fun : Option ℕ) → x.fun ≡ fun → MatchOption o ⊥ (λ _. MatchOption fun ⊤ (λ f. MatchOption (places_of net f) ⊥ (λ places. Contains places x.loc))) → x ≡ at x.loc
+      by : (o : Option LocationKind) (fun : Option ℕ) → x.fun ≡ fun → MatchOption o ⊥ (λ _. MatchOption fun ⊤ (λ f. MatchOption (places_of net f) ⊥ (λ places. Contains places x.loc))) → x ≡ at x.loc
       by None fun e h = absurd h
       by (Some k) None e h = λ i. record { loc = x.loc; fun = e i }
       by (Some k) (Some f) e h = absurd (in_places f (places_of net f) refl h)

@@ -4,21 +4,24 @@ use Rattle.std.proofs.lemmas.Bool.{eqb-true, eq-eqb}
 use Rattle.std.proofs.lemmas.Option.{slice_get_within, get_or_from_slice_get}
 use Rattle.std.specs.Bool.{⊤}
 use Rattle.std.specs.List.{AllByRecursion}
-use Rattle.merlin_model.specs.declared.network.Kind.{Kind}
-use Rattle.merlin_model.specs.declared.network.Kind.TheVariants.{Host, Switch, Middlebox}
+use Rattle.merlin_model.specs.declared.network.LocationKind.{LocationKind}
+use Rattle.merlin_model.specs.declared.network.LocationKind.TheVariants.{Host, Switch, Middlebox}
 use Rattle.merlin_model.specs.declared.network.FnDecl.{FnDecl}
 use Rattle.merlin_model.specs.declared.policy.Symbol.{Symbol}
 use Rattle.merlin_model.specs.declared.config.Out.{Out}
 use Rattle.merlin_model.specs.declared.config.Out.TheVariants.{InPort, Port}
+use Rattle.merlin_model.specs.declared.config.Action.{Action}
+use Rattle.merlin_model.specs.declared.config.Vlan.TheVariants.{Tag}
 use Rattle.merlin_model.specs.declared.config.Rule.{Rule}
 use Rattle.merlin_model.specs.declared.config.Process.{Process}
 use Rattle.merlin_model.specs.declared.network.DirectedLink.{DirectedLink}
 use Rattle.merlin_model.specs.Networks.{Network, places_of, kind_of, back_of, IsHost, IsMiddlebox, address_at, directed_links, links_from, IsNetwork}
 use Rattle.merlin_model.specs.Words.{functions_of, IsSymbol}
-use Rattle.merlin_model.specs.Machine.{Fits, Frame, Visit, Forwards, tag_is, is_for, acting_rule, acting_process, link_at, link_to, send_over, act, at_switch, at_middlebox, queue_of, next_at, next}
+use Rattle.merlin_model.specs.Machine.{Fits, Frame, Visit, Forwards, agrees, tag_is, is_for, acting_rule, acting_process, link_at, link_to, send_over, act, at_switch, at_middlebox, queue_of, next_at, next}
 use Rattle.merlin_model.specs.Headline.{stop_of}
+use Rattle.rules_model.specs.declared.priorities.TheConstants.{TAG_PRIORITY, BACK_PRIORITY}
 use Rattle.rules_model.specs.Products.{queue_in, Vertex, loc_of}
-use Rattle.rules_model.specs.Tables.{functions_here, onward, tag_key_of, Hop, HasTag, IsTagOn, onward_location, IsHop, TableRow, IngressEntry, send_through, relabel, tag_rule, back_rule, cell_rule, rules_by_tag, process_of, table_rules, table_processes, IsTableRow}
+use Rattle.rules_model.specs.Tables.{functions_here, onward, tag_key_of, Hop, HasTag, IsTagOn, onward_location, IsHop, TableRow, IngressEntry, match_anything, send_through, relabel, tag_rule, back_rule, cell_rule, rules_by_tag, process_of, table_rules, table_processes, IsTableRow}
 use Rattle.merlin_model.proofs.Members.{In, in_from, in_to, all_in, filter_in, find_only}
 use Rattle.merlin_model.proofs.DirectedLinks.{way_back, same_by_port, same_by_ends, link_at-is}
 use Rattle.merlin_model.proofs.Acting.{acting-is}
@@ -37,13 +40,13 @@ suc-inj m n e = omega arith
 -- Locations.
 
 -- a symbol away from hosts is at a switch or at a middlebox
-abbrev HasKind : Option Kind → Type 0
+abbrev HasKind : Option LocationKind → Type 0
 HasKind o = (o ≡ Some Switch) ⊎ (o ≡ Some Middlebox)
 
 pub inner_kind : (net : Network) (x : Symbol) → IsSymbol net x → ¬ IsHost net x.loc → HasKind (kind_of net x.loc)
 inner_kind net x symbol inside = by (kind_of net x.loc) symbol inside
   where
-    by : (o : Option Kind) → MatchOption o ⊥ (λ _. MatchOption x.fun ⊤ (λ f. MatchOption (places_of net f) ⊥ (λ places. Contains places x.loc))) → ¬ IsSome (address_at o) → HasKind o
+    by : (o : Option LocationKind) → MatchOption o ⊥ (λ _. MatchOption x.fun ⊤ (λ f. MatchOption (places_of net f) ⊥ (λ places. Contains places x.loc))) → ¬ IsSome (address_at o) → HasKind o
     by None s n = absurd s
     by (Some (Host address)) s n = absurd (n refl)
     by (Some Switch) s n = inl refl
@@ -66,7 +69,7 @@ none_at_switch net ok x symbol here = by (kind_of net x.loc) here x.fun symbol
     in_places f None e h = h
     in_places f (Some places) e h = Switch-Middlebox (sym here ∙ at_middlebox-only net ok f x.loc places e h)
 
-    by : (o : Option Kind) → o ≡ Some Switch → (fun : Option ℕ) → MatchOption o ⊥ (λ _. MatchOption fun ⊤ (λ f. MatchOption (places_of net f) ⊥ (λ places. Contains places x.loc))) → option_to_list fun ≡ []
+    by : (o : Option LocationKind) → o ≡ Some Switch → (fun : Option ℕ) → MatchOption o ⊥ (λ _. MatchOption fun ⊤ (λ f. MatchOption (places_of net f) ⊥ (λ places. Contains places x.loc))) → option_to_list fun ≡ []
     by None e fun h = absurd h
     by (Some l) e None h = refl
     by (Some l) e (Some f) h = absurd (in_places f (places_of net f) refl h)
@@ -138,16 +141,20 @@ module _ (setting : Setting) where
   pub row-same : (x y : TableRow) → In x setting.plan.rows → In y setting.plan.rows → loc_of x.vertex ≡ loc_of y.vertex → x.tag ≡ y.tag → x.eth ≡ y.eth → x ≡ y
   row-same x y ix iy loc tag eth = row-one x y (setting.plan_is.rows_are x (in_to setting.plan.rows x ix)) (setting.plan_is.rows_are y (in_to setting.plan.rows y iy)) loc tag eth
 
+  -- the frame came over a directed link, and not from a host
+  pub record CameFromInside (f : Frame) : Type 0 where
+    pub link : DirectedLink
+    pub present : Contains (directed_links setting.net) link
+    pub to : link.to ≡ f.loc
+    pub port : link.in_port ≡ f.port
+    pub inner : ¬ IsHost setting.net link.from
+
   -- the frame is at the location of the row, under its tag, for its destination, and it didn't come from a host
   pub record StandsAt (f : Frame) (row : TableRow) : Type 0 where
     pub loc : f.loc ≡ loc_of row.vertex
     pub tag : f.tag ≡ Some row.tag
     pub eth : f.packet.eth_dst ≡ row.eth
-    pub link : DirectedLink
-    pub came : Contains (directed_links setting.net) link
-    pub to : link.to ≡ f.loc
-    pub port : link.in_port ≡ f.port
-    pub inner : ¬ IsHost setting.net link.from
+    pub came : CameFromInside f
 
   -- Which rules fit it.
 
@@ -177,10 +184,19 @@ module _ (setting : Setting) where
   abbrev queue : TableRow → Option ℕ
   queue row = row.queue
 
-  fits_tag_rule : (f : Frame) (row : TableRow) → StandsAt f row → is_for f (tag_rule row) ≡ true
-  fits_tag_rule f row at = fits-from f (tag_rule row) (record {
+  -- a rule for the frames of a row that come in at this port, or at any
+  abbrev rule_by_tag : ℕ → Option ℕ → List Action → TableRow → Rule
+  rule_by_tag priority in_port actions row = record {
+    loc = loc_of row.vertex;
+    priority = priority;
+    fits = record match_anything { in_port = in_port; dl_dst = Some row.eth; dl_vlan = Some (Tag row.tag) };
+    actions = actions;
+  }
+
+  fits_by_tag : (priority : ℕ) (in_port : Option ℕ) (actions : List Action) (f : Frame) (row : TableRow) → StandsAt f row → agrees in_port f.port ≡ true → is_for f (rule_by_tag priority in_port actions row) ≡ true
+  fits_by_tag priority in_port actions f row at port = fits-from f (rule_by_tag priority in_port actions row) (record {
     loc = sym at.loc;
-    in_port = refl;
+    in_port = port;
     dl_src = refl;
     dl_dst = eq-eqb row.eth f.packet.eth_dst (sym at.eth);
     dl_vlan = fits-tag f.tag row.tag at.tag;
@@ -191,19 +207,11 @@ module _ (setting : Setting) where
     tp_dst = refl;
   })
 
+  fits_tag_rule : (f : Frame) (row : TableRow) → StandsAt f row → is_for f (tag_rule row) ≡ true
+  fits_tag_rule f row at = fits_by_tag TAG_PRIORITY None (tag_rule row).actions f row at refl
+
   fits_back_rule : (f : Frame) (row : TableRow) → StandsAt f row → row.hop.link.out_port ≡ f.port → is_for f (back_rule row) ≡ true
-  fits_back_rule f row at port = fits-from f (back_rule row) (record {
-    loc = sym at.loc;
-    in_port = eq-eqb row.hop.link.out_port f.port port;
-    dl_src = refl;
-    dl_dst = eq-eqb row.eth f.packet.eth_dst (sym at.eth);
-    dl_vlan = fits-tag f.tag row.tag at.tag;
-    nw_proto = refl;
-    nw_src = refl;
-    nw_dst = refl;
-    tp_src = refl;
-    tp_dst = refl;
-  })
+  fits_back_rule f row at port = fits_by_tag BACK_PRIORITY (Some row.hop.link.out_port) (back_rule row).actions f row at (eq-eqb row.hop.link.out_port f.port port)
 
   -- a cell takes untagged frames alone
   cell-untagged : (f : Frame) (e : IngressEntry) → is_for f (cell_rule e) ≡ true → not (is_some f.tag) ≡ true
@@ -320,9 +328,9 @@ module _ (setting : Setting) where
       -- the way back leads to no host
       not_back : row.hop.link.out_port ≡ f.port → row.hop.tag ≡ None → ⊥
       not_back port strip =
-          let same : back_of at.link ≡ row.hop.link = same_by_port setting.net setting.network (back_of at.link) row.hop.link (way_back setting.net at.link at.came) r.hop.present (at.to ∙ at.loc ∙ sym r.hop.starts) (at.port ∙ sym port) in
-          let far : at.link.from ≡ row.dest = ap (λ w. w.to) same ∙ r.hop.ends ∙ on_host row.group row.dest (onward (loc_of row.vertex) r.after) row.hop.tag r.hop.tag strip in
-          at.inner (subst (IsHost setting.net) (sym far) ((routing setting).dest row.group row.dest row.vertex r.after r.followed))
+          let same : back_of at.came.link ≡ row.hop.link = same_by_port setting.net setting.network (back_of at.came.link) row.hop.link (way_back setting.net at.came.link at.came.present) r.hop.present (at.came.to ∙ at.loc ∙ sym r.hop.starts) (at.came.port ∙ sym port) in
+          let far : at.came.link.from ≡ row.dest = ap (λ w. w.to) same ∙ r.hop.ends ∙ on_host row.group row.dest (onward (loc_of row.vertex) r.after) row.hop.tag r.hop.tag strip in
+          at.came.inner (subst (IsHost setting.net) (sym far) ((routing setting).dest row.group row.dest row.vertex r.after r.followed))
 
       by : (b : Bool) → (row.hop.link.out_port == f.port) ≡ b → (t : Option ℕ) → row.hop.tag ≡ t → GoesBy f row
       by true e None strip = absurd (not_back (eqb-true row.hop.link.out_port f.port e) strip)

@@ -4,8 +4,8 @@ use Rattle.std.proofs.lemmas.Bool.{eq-eqb}
 use Rattle.std.proofs.lemmas.Option.{slice_get_within}
 use Rattle.std.proofs.lemmas.List.FromFn.{get_or-range_with_len, length-range_with_len}
 use Rattle.std.specs.List.{flat_map, range_with_len}
-use Rattle.merlin_model.specs.declared.network.Kind.{Kind}
-use Rattle.merlin_model.specs.declared.network.Kind.TheVariants.{Switch, Middlebox}
+use Rattle.merlin_model.specs.declared.network.LocationKind.{LocationKind}
+use Rattle.merlin_model.specs.declared.network.LocationKind.TheVariants.{Switch, Middlebox}
 use Rattle.merlin_model.specs.declared.network.Location.{Location}
 use Rattle.merlin_model.specs.declared.config.Rule.{Rule}
 use Rattle.merlin_model.specs.declared.config.Process.{Process}
@@ -18,7 +18,7 @@ pub in_range : (n k : ℕ) → k < n → In k (range_with_len 0 n)
 in_range n k lt = in_from (range_with_len 0 n) k (k, subst (λ m. k < m) (sym (length-range_with_len 0 n)) lt, get_or-range_with_len 0 n k k lt ∙ omega arith)
 
 -- what has a kind is a location
-pub is_location : (net : Network) (loc : ℕ) (kind : Kind) → kind_of net loc ≡ Some kind → loc < length net.locations
+pub is_location : (net : Network) (loc : ℕ) (kind : LocationKind) → kind_of net loc ≡ Some kind → loc < length net.locations
 is_location net loc kind e = by (slice_get net.locations loc) refl e
   where
     by : (o : Option Location) → slice_get net.locations loc ≡ o → option_map (λ l. l.kind) o ≡ Some kind → loc < length net.locations

@@ -1,7 +1,7 @@
 -- Sink trees: what follows a vertex is one list, and no way to the end is shorter.
 use Rattle.std.proofs.Common.{◌≡◌, ◌≢◌, ℕ, suc, ◌<◌, ◌≤◌, ◌⊎◌, inl, inr, List, [], ◌∷◌, ◌++◌, length, Option, None, Some, IsSome, MatchOption, slice_get, refl, sym, ◌∙◌, ap, ap₂, subst, arith}
 use Rattle.std.specs.Bool.{⊤}
-use Rattle.merlin_model.specs.declared.network.Kind.{Kind}
+use Rattle.merlin_model.specs.declared.network.LocationKind.{LocationKind}
 use Rattle.merlin_model.specs.Networks.{Network, kind_of, IsHost, address_at, Pairwise}
 use Rattle.merlin_model.specs.Words.{at, IsSymbol, MayFollow}
 use Rattle.rules_model.specs.Products.{SymbolAutomaton, Vertex, loc_of, start_of, IsEdge, LeadsToEnd, LeadsTo, function_place, IsUpTo, IsInTree, IsFollowedBy, WrittenWalk, IsWrittenWalk, FollowsIn, Group, AreWrittenWalks, FollowsAt, Follows}
@@ -70,7 +70,7 @@ leads-symbol net a v (x ∷ path) u s h = leads-symbol net a x path u h.0.symbol
 pub host_symbol : (net : Network) (h : ℕ) → IsHost net h → IsSymbol net (at h)
 host_symbol net h host = by (kind_of net h) host
   where
-    by : (o : Option Kind) → IsSome (address_at o) → MatchOption o ⊥ (λ _. ⊤)
+    by : (o : Option LocationKind) → IsSome (address_at o) → MatchOption o ⊥ (λ _. ⊤)
     by None n = let no_way : ⊥ = cc in absurd no_way
     by (Some l) n = tt
 

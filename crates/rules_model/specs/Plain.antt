@@ -10,6 +10,7 @@ use Rattle.merlin_model.specs.Networks.{Network, kind_of, address_of, IsHost, Is
 use Rattle.merlin_model.specs.Words.{at}
 use Rattle.merlin_model.specs.Policies.{Policy}
 use Rattle.merlin_model.specs.Machine.{uplink_of}
+use Rattle.rules_model.specs.declared.priorities.TheConstants.{WHOLE_PRIORITY}
 use Rattle.rules_model.specs.declared.attached_host.AttachedHost.{AttachedHost}
 use Rattle.rules_model.specs.Products.{SymbolAutomaton, Vertex, Group}
 use Rattle.rules_model.specs.Tables.{Hop, TableRow, Cell, IngressEntry, is_host_kind, all_switches, rules_of_row, cell_rule, last_rule}
@@ -33,7 +34,7 @@ any_groups = record { automaton = any_automaton; written = None; queue = None } 
 
 -- the one cell of a pair of hosts: all packets
 abbrev pub whole : Cell
-whole = record { priority = 20; proto = None; sport = None; dport = None }
+whole = record { priority = WHOLE_PRIORITY; proto = None; sport = None; dport = None }
 
 abbrev pub whole_cells : ℕ → ℕ → List (Cell × ℕ)
 whole_cells s d = (whole, 0) ∷ []

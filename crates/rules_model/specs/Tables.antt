@@ -1,8 +1,8 @@
 -- The tables: tags, rules and `process` lines.
 use Rattle.std.specs.Prelude.{◌↔◌, ℕ, suc, ◌≡◌, ◌≢◌, ◌<◌, ◌⊎◌, ◌==◌, ◌&&◌, Bool, true, false, List, [], ◌∷◌, ◌++◌, map, length, filter, Contains, Option, None, Some, is_some, unwrap_or, slice_get, if◌then◌else◌}
 use Rattle.std.specs.List.{flat_map, range_with_len}
-use Rattle.merlin_model.specs.declared.network.Kind.{Kind}
-use Rattle.merlin_model.specs.declared.network.Kind.TheVariants.{Host, Switch, Middlebox}
+use Rattle.merlin_model.specs.declared.network.LocationKind.{LocationKind}
+use Rattle.merlin_model.specs.declared.network.LocationKind.TheVariants.{Host, Switch, Middlebox}
 use Rattle.merlin_model.specs.declared.network.HostAddress.{HostAddress}
 use Rattle.merlin_model.specs.declared.config.Out.{Out}
 use Rattle.merlin_model.specs.declared.config.Out.TheVariants.{InPort, Port}
@@ -17,6 +17,7 @@ use Rattle.merlin_model.specs.declared.network.DirectedLink.{DirectedLink}
 use Rattle.merlin_model.specs.Networks.{Pairwise, Network, kind_of, IsHost, address_at, address_of, directed_links}
 use Rattle.merlin_model.specs.Words.{functions_of}
 use Rattle.merlin_model.specs.Machine.{agrees}
+use Rattle.rules_model.specs.declared.priorities.TheConstants.{TAG_PRIORITY, BACK_PRIORITY}
 use Rattle.rules_model.specs.Products.{Vertex, loc_of, function_place, Group, Follows, IsVertex, start_in, AllowsWalk, queue_in}
 
 -- What happens at the location of a vertex, given the vertices that follow up to the end.
@@ -145,7 +146,7 @@ relabel (Some n) = SetVlan n
 abbrev pub tag_rule : TableRow → Rule
 tag_rule row = record {
   loc = loc_of row.vertex;
-  priority = 100;
+  priority = TAG_PRIORITY;
   fits = record match_anything { dl_dst = Some row.eth; dl_vlan = Some (Tag row.tag) };
   actions = relabel row.hop.tag ∷ send_through row.queue (Port row.hop.link.out_port) ∷ [];
 }
@@ -153,7 +154,7 @@ tag_rule row = record {
 abbrev pub back_rule : TableRow → Rule
 back_rule row = record {
   loc = loc_of row.vertex;
-  priority = 200;
+  priority = BACK_PRIORITY;
   fits = record match_anything { in_port = Some row.hop.link.out_port; dl_dst = Some row.eth; dl_vlan = Some (Tag row.tag) };
   actions = relabel row.hop.tag ∷ send_through row.queue InPort ∷ [];
 }
@@ -215,23 +216,23 @@ pub record Plan : Type 0 where
   pub rows : List TableRow
   pub entries : List IngressEntry
 
-abbrev pub is_switch_kind : Option Kind → Bool
+abbrev pub is_switch_kind : Option LocationKind → Bool
 is_switch_kind None = false
 is_switch_kind (Some (Host address)) = false
 is_switch_kind (Some Switch) = true
 is_switch_kind (Some Middlebox) = false
 
-abbrev pub is_middlebox_kind : Option Kind → Bool
+abbrev pub is_middlebox_kind : Option LocationKind → Bool
 is_middlebox_kind None = false
 is_middlebox_kind (Some (Host address)) = false
 is_middlebox_kind (Some Switch) = false
 is_middlebox_kind (Some Middlebox) = true
 
-abbrev pub is_host_kind : Option Kind → Bool
+abbrev pub is_host_kind : Option LocationKind → Bool
 is_host_kind kind = is_some (address_at kind)
 
 -- the locations of one kind, in the order of the topology
-abbrev pub locations_of_kind : (Option Kind → Bool) → Network → List ℕ
+abbrev pub locations_of_kind : (Option LocationKind → Bool) → Network → List ℕ
 locations_of_kind is_kind net = filter (λ loc. is_kind (kind_of net loc)) (range_with_len 0 (length net.locations))
 
 abbrev pub all_hosts : Network → List ℕ
@@ -291,17 +292,18 @@ module _ (net : Network) (groups : List Group) (plan : Plan) where
 
 -- Order. With it the tables are determined.
 
+-- of two triples the one comes first that has less where they differ first
+abbrev pub IsBelow : ℕ × ℕ × ℕ → ℕ × ℕ × ℕ → Type 0
+IsBelow a b = (a.0 < b.0) ⊎ ((a.0 ≡ b.0) × ((a.1 < b.1) ⊎ ((a.1 ≡ b.1) × (a.2 < b.2))))
+
 -- tags go by group, state and function
 abbrev pub IsBelowKey : TagKey → TagKey → Type 0
 IsBelowKey a b =
-    (a.group < b.group)
-    ⊎ ((a.group ≡ b.group) × ((a.state < b.state) ⊎ ((a.state ≡ b.state) × (function_place a.fun < function_place b.fun))))
+    IsBelow (a.group, a.state, function_place a.fun) (b.group, b.state, function_place b.fun)
 
 -- rows go by location, tag and destination
 abbrev pub IsBelowRow : TableRow → TableRow → Type 0
-IsBelowRow a b =
-    (loc_of a.vertex < loc_of b.vertex)
-    ⊎ ((loc_of a.vertex ≡ loc_of b.vertex) × ((a.tag < b.tag) ⊎ ((a.tag ≡ b.tag) × (a.dest < b.dest))))
+IsBelowRow a b = IsBelow (loc_of a.vertex, a.tag, a.dest) (loc_of b.vertex, b.tag, b.dest)
 
 -- the tag is that of a vertex of a product, at no host
 pub record IsTagKey (net : Network) (groups : List Group) (key : TagKey) : Type 0 where

@@ -50,8 +50,9 @@ pub fn one_plan()
 /// An entry is determined by its pair of hosts, its cell and its group, over the same tags.
 pub fn one_entry()
     ensures { (net : Network) (groups : List Group) (plan other : Plan) (x y : IngressEntry) →
-        IsNetwork net → AreWrittenWalks net groups → IsPlan net groups plan → plan.tags ≡ other.tags →
-        IsIngressEntry net groups plan x → IsIngressEntry net groups other y → owned_by x ≡ owned_by y → x ≡ y }
+        IsNetwork net → AreWrittenWalks net groups → IsPlan net groups plan →
+        plan.tags ≡ other.tags → IsIngressEntry net groups plan x →
+        IsIngressEntry net groups other y → owned_by x ≡ owned_by y → x ≡ y }
 {}
 
 /// The rules of the next hops deliver packets as the policy that allows every way promises.

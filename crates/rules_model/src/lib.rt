@@ -3,3 +3,4 @@
 
 pub mod attached_host;
 pub mod laws;
+pub mod priorities;

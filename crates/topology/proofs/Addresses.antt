@@ -2,8 +2,8 @@
 use Rattle.std.proofs.Common.{◌≡◌, ◌≢◌, ◌⊎◌, inl, inr, ℕ, zero, suc, List, [], ◌∷◌, slice_get, option_map, Option, Some, None, refl, sym, ap, subst, arith}
 use Rattle.std.specs.List.{AllByRecursion}
 use Rattle.merlin_model.specs.declared.network.HostAddress.{HostAddress}
-use Rattle.merlin_model.specs.declared.network.Kind.{Kind}
-use Rattle.merlin_model.specs.declared.network.Kind.TheVariants.{Host, Switch, Middlebox}
+use Rattle.merlin_model.specs.declared.network.LocationKind.{LocationKind}
+use Rattle.merlin_model.specs.declared.network.LocationKind.TheVariants.{Host, Switch, Middlebox}
 use Rattle.merlin_model.specs.declared.network.Location.{Location}
 use Rattle.merlin_model.specs.Networks.{address_at, Pairwise}
 use Rattle.merlin_model.proofs.Members.{In, all_in}
@@ -28,7 +28,7 @@ all_hosts : (P : HostAddress → Type 0) (ls : List Location) → ((k : ℕ) (b 
 all_hosts P [] each = tt
 all_hosts P (l ∷ ls) each = by l.name l.kind (each 0) (all_hosts P ls (λ k b e. each (suc k) b e))
   where
-    by : (name : List ℕ) (kind : Kind) → ((b : HostAddress) → address_at (Some kind) ≡ Some b → P b) → AllByRecursion P (hosts_of ls) → AllByRecursion P (hosts_of ((record { name = name; kind = kind }) ∷ ls))
+    by : (name : List ℕ) (kind : LocationKind) → ((b : HostAddress) → address_at (Some kind) ≡ Some b → P b) → AllByRecursion P (hosts_of ls) → AllByRecursion P (hosts_of ((record { name = name; kind = kind }) ∷ ls))
     by name (Host a) first rest = (first a refl, rest)
     by name Switch first rest = rest
     by name Middlebox first rest = rest
@@ -38,13 +38,13 @@ host_in : (ls : List Location) (k : ℕ) (b : HostAddress) → host_at ls k ≡ 
 host_in [] k b e = never b e
 host_in (l ∷ ls) zero b e = by l.name l.kind e
   where
-    by : (name : List ℕ) (kind : Kind) → address_at (Some kind) ≡ Some b → In b (hosts_of ((record { name = name; kind = kind }) ∷ ls))
+    by : (name : List ℕ) (kind : LocationKind) → address_at (Some kind) ≡ Some b → In b (hosts_of ((record { name = name; kind = kind }) ∷ ls))
     by name (Host a) e = inl cc
     by name Switch e = absurd (never b e)
     by name Middlebox e = absurd (never b e)
 host_in (l ∷ ls) (suc k) b e = by l.name l.kind (host_in ls k b e)
   where
-    by : (name : List ℕ) (kind : Kind) → In b (hosts_of ls) → In b (hosts_of ((record { name = name; kind = kind }) ∷ ls))
+    by : (name : List ℕ) (kind : LocationKind) → In b (hosts_of ls) → In b (hosts_of ((record { name = name; kind = kind }) ∷ ls))
     by name (Host a) i = inr i
     by name Switch i = i
     by name Middlebox i = i
@@ -67,18 +67,18 @@ pub differ_from_places : (ls : List Location) → OneBy ls → Pairwise Differ (
 differ_from_places [] one = tt
 differ_from_places (l ∷ ls) one = by l.name l.kind (λ a e k b f same. no_zero k (one 0 (suc k) a b e f same)) (differ_from_places ls (λ h k a b e f same. less h k (one (suc h) (suc k) a b e f same)))
   where
-    by : (name : List ℕ) (kind : Kind) → ((a : HostAddress) → address_at (Some kind) ≡ Some a → (k : ℕ) (b : HostAddress) → host_at ls k ≡ Some b → (a.eth ≡ b.eth) ⊎ (a.ip ≡ b.ip) → ⊥) → Pairwise Differ (hosts_of ls) → Pairwise Differ (hosts_of ((record { name = name; kind = kind }) ∷ ls))
+    by : (name : List ℕ) (kind : LocationKind) → ((a : HostAddress) → address_at (Some kind) ≡ Some a → (k : ℕ) (b : HostAddress) → host_at ls k ≡ Some b → (a.eth ≡ b.eth) ⊎ (a.ip ≡ b.ip) → ⊥) → Pairwise Differ (hosts_of ls) → Pairwise Differ (hosts_of ((record { name = name; kind = kind }) ∷ ls))
     by name (Host a) first rest = (all_hosts (Differ a) ls (λ k b f. ((λ e. first a refl k b f (inl e)), (λ e. first a refl k b f (inr e)))), rest)
     by name Switch first rest = rest
     by name Middlebox first rest = rest
 
 -- the hosts after a location differ
-rest_of : (name : List ℕ) (kind : Kind) (ls : List Location) → Pairwise Differ (hosts_of ((record { name = name; kind = kind }) ∷ ls)) → Pairwise Differ (hosts_of ls)
+rest_of : (name : List ℕ) (kind : LocationKind) (ls : List Location) → Pairwise Differ (hosts_of ((record { name = name; kind = kind }) ∷ ls)) → Pairwise Differ (hosts_of ls)
 rest_of name (Host a) ls p = p.1
 rest_of name Switch ls p = p
 rest_of name Middlebox ls p = p
 
-first_of_all : (name : List ℕ) (kind : Kind) (ls : List Location) (a : HostAddress) → address_at (Some kind) ≡ Some a → Pairwise Differ (hosts_of ((record { name = name; kind = kind }) ∷ ls)) → AllByRecursion (Differ a) (hosts_of ls)
+first_of_all : (name : List ℕ) (kind : LocationKind) (ls : List Location) (a : HostAddress) → address_at (Some kind) ≡ Some a → Pairwise Differ (hosts_of ((record { name = name; kind = kind }) ∷ ls)) → AllByRecursion (Differ a) (hosts_of ls)
 first_of_all name (Host b) ls a e p = let same : b ≡ a = cc in subst (λ (x : HostAddress). AllByRecursion (Differ x) (hosts_of ls)) same p.0
 first_of_all name Switch ls a e p = absurd (never a e)
 first_of_all name Middlebox ls a e p = absurd (never a e)

@@ -3,8 +3,8 @@ use Rattle.std.proofs.Common.{◌≡◌, ◌+◌, ◌<◌, ℕ, Bool, true, cond
 use Rattle.std.proofs.lemmas.List.{take_more, take-append-drop}
 use Rattle.std.proofs.lemmas.List.Elements.{filter_map-append, filter-append}
 use Rattle.merlin_model.specs.declared.network.HostAddress.{HostAddress}
-use Rattle.merlin_model.specs.declared.network.Kind.{Kind}
-use Rattle.merlin_model.specs.declared.network.Kind.TheVariants.{Host, Switch, Middlebox}
+use Rattle.merlin_model.specs.declared.network.LocationKind.{LocationKind}
+use Rattle.merlin_model.specs.declared.network.LocationKind.TheVariants.{Host, Switch, Middlebox}
 use Rattle.merlin_model.specs.declared.network.Location.{Location}
 use Rattle.merlin_model.specs.declared.network.Link.{Link}
 use Rattle.merlin_model.specs.Networks.{from_a, from_b, directed_links_of}
@@ -29,9 +29,9 @@ second_passes p xs i d first within one passes x only =
     omega (arith, ap length whole, ap length front, ap length one, ap length last, ap length only, length-append (filter p (take (i + 1) xs)) (filter p (drop (i + 1) xs)), length-append (filter p (take i xs)) (filter p (get_or xs i d ∷ [])))
 
 pub one_host : (l : Location) (address : HostAddress) → l.kind ≡ Host address → hosts_of (l ∷ []) ≡ address ∷ []
-one_host l address e = ap (λ (kind : Kind). hosts_of ((record { name = l.name; kind = kind }) ∷ [])) e
+one_host l address e = ap (λ (kind : LocationKind). hosts_of ((record { name = l.name; kind = kind }) ∷ [])) e
 
-of_kind : (name : List ℕ) (kind : Kind) → ((x : HostAddress) → kind ≡ Host x → ⊥) → hosts_of ((record { name = name; kind = kind }) ∷ []) ≡ []
+of_kind : (name : List ℕ) (kind : LocationKind) → ((x : HostAddress) → kind ≡ Host x → ⊥) → hosts_of ((record { name = name; kind = kind }) ∷ []) ≡ []
 of_kind name (Host address) other = absurd (other address refl)
 of_kind name Switch other = refl
 of_kind name Middlebox other = refl

@@ -3,8 +3,8 @@ use Rattle.std.proofs.Common.{◌≡◌, inl, inr, ℕ, List, length, codes, Opt
 use Rattle.serde_json.specs.Data.{Data}
 use Rattle.serde_json.specs.Find.{get}
 use Rattle.merlin_base.specs.Lexemes.{IsMac, IsIp, IsRate}
-use Rattle.merlin_model.specs.declared.network.Kind.{Kind}
-use Rattle.merlin_model.specs.declared.network.Kind.TheVariants.{Host, Switch, Middlebox}
+use Rattle.merlin_model.specs.declared.network.LocationKind.{LocationKind}
+use Rattle.merlin_model.specs.declared.network.LocationKind.TheVariants.{Host, Switch, Middlebox}
 use Rattle.merlin_model.specs.declared.network.Location.{Location}
 use Rattle.merlin_model.specs.declared.network.Link.{Link}
 use Rattle.merlin_model.specs.Networks.{AreDifferent}
@@ -17,7 +17,7 @@ use Rattle.topology.proofs.Elements.{elements_one, end_one}
 lexeme_one : (form : List ℕ → ℕ → Type 0) → ((t : List ℕ) (n m : ℕ) → form t n → form t m → n ≡ m) → (key : List ℕ) (d : Data) (n m : ℕ) → HasLexeme form key d n → HasLexeme form key d m → n ≡ m
 lexeme_one form one key d n m (s, has, is) (t, has', is') = one s n m is (subst (λ (x : List ℕ). form x m) (one_text key d t s has' has) is')
 
-kind_one : (d : Data) (k l : Kind) → HasKind d k → HasKind d l → k ≡ l
+kind_one : (d : Data) (k l : LocationKind) → HasKind d k → HasKind d l → k ≡ l
 kind_one d (Host a) (Host b) (p, pe, pi) (q, qe, qi) =
     let eth : a.eth ≡ b.eth = lexeme_one IsMac mac_one (codes "eth") d a.eth b.eth pe qe in
     let ip : a.ip ≡ b.ip = lexeme_one IsIp ip_one (codes "ip") d a.ip b.ip pi qi in
@@ -34,7 +34,7 @@ kind_one d Middlebox Middlebox p q = refl
 location_one : (d : Data) (k l : Location) → IsLocationOf d k → IsLocationOf d l → k ≡ l
 location_one d k l p q =
     ap (λ (n : List ℕ). record { name = n; kind = k.kind }) (one_text (codes "name") d k.name l.name p.name q.name)
-    ∙ ap (λ (x : Kind). record { name = l.name; kind = x }) (kind_one d k.kind l.kind p.kind q.kind)
+    ∙ ap (λ (x : LocationKind). record { name = l.name; kind = x }) (kind_one d k.kind l.kind p.kind q.kind)
 
 pub locations_one : (d : Data) (ks ls : List Location) → AreLocationsOf d ks → AreLocationsOf d ls → ks ≡ ls
 locations_one d ks ls p q = elements_one IsLocationOf location_one (codes "locations") d ks ls p.0 q.0

@@ -6,8 +6,8 @@ use Rattle.std.proofs.lemmas.Option.{slice_get_within}
 use Rattle.serde_json.specs.Data.{Data}
 use Rattle.merlin_base.specs.Lexemes.{IsName}
 use Rattle.merlin_model.specs.declared.network.HostAddress.{HostAddress}
-use Rattle.merlin_model.specs.declared.network.Kind.{Kind}
-use Rattle.merlin_model.specs.declared.network.Kind.TheVariants.{Host, Switch, Middlebox}
+use Rattle.merlin_model.specs.declared.network.LocationKind.{LocationKind}
+use Rattle.merlin_model.specs.declared.network.LocationKind.TheVariants.{Host, Switch, Middlebox}
 use Rattle.merlin_model.specs.declared.network.Location.{Location}
 use Rattle.merlin_model.specs.declared.network.Link.{Link}
 use Rattle.merlin_model.specs.Networks.{Network, IsNetwork, address_at, address_of, directed_links, directed_links_of, Pairwise, AreDifferent}
@@ -43,12 +43,12 @@ host_kind None address e = absurd (never address e)
     never a e = cc
 host_kind (Some l) address e = (l, refl, by l.kind e)
   where
-    by : (kind : Kind) → address_at (Some kind) ≡ Some address → kind ≡ Host address
+    by : (kind : LocationKind) → address_at (Some kind) ≡ Some address → kind ≡ Host address
     by (Host a) e = let same : a ≡ address = cc in ap Host same
     by Switch e = cc
     by Middlebox e = cc
 
-bounds : (d : Data) (kind : Kind) (address : HostAddress) → HasKind d kind → kind ≡ Host address → (address.eth < 2 ^ 48) × (address.ip < 2 ^ 32)
+bounds : (d : Data) (kind : LocationKind) (address : HostAddress) → HasKind d kind → kind ≡ Host address → (address.eth < 2 ^ 48) × (address.ip < 2 ^ 32)
 bounds d (Host a) address (is, (e, he, eth), (i, hi, ip)) same =
     let one : a ≡ address = cc in
     subst (λ (x : HostAddress). (x.eth < 2 ^ 48) × (x.ip < 2 ^ 32)) one (mac_below e a.eth eth, ip_below i a.ip ip)

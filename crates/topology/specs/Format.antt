@@ -3,8 +3,8 @@ use Rattle.std.specs.Prelude.{◌≡◌, ◌≢◌, ◌≤◌, ◌⊎◌, ℕ, L
 use Rattle.serde_json.specs.Data.{Data}
 use Rattle.serde_json.specs.Find.{get}
 use Rattle.merlin_base.specs.Lexemes.{IsName, IsMac, IsIp, IsRate}
-use Rattle.merlin_model.specs.declared.network.Kind.{Kind}
-use Rattle.merlin_model.specs.declared.network.Kind.TheVariants.{Host, Switch, Middlebox}
+use Rattle.merlin_model.specs.declared.network.LocationKind.{LocationKind}
+use Rattle.merlin_model.specs.declared.network.LocationKind.TheVariants.{Host, Switch, Middlebox}
 use Rattle.merlin_model.specs.declared.network.Location.{Location}
 use Rattle.merlin_model.specs.declared.network.Link.{Link}
 use Rattle.merlin_model.specs.Networks.{Network, IsNetwork}
@@ -17,7 +17,7 @@ abbrev pub HasLexeme : (List ℕ → ℕ → Type 0) → List ℕ → Data → �
 HasLexeme form key d n = (text : List ℕ) × HasText key d text × form text n
 
 -- what stands there; a host has its two addresses
-abbrev pub HasKind : Data → Kind → Type 0
+abbrev pub HasKind : Data → LocationKind → Type 0
 HasKind d (Host address) =
     HasText (codes "kind") d (codes "host")
     × HasLexeme IsMac (codes "eth") d address.eth × HasLexeme IsIp (codes "ip") d address.ip

@@ -1,7 +1,7 @@
 -- The laws of networks that the reader asks, each of what it has at hand.
 use Rattle.std.specs.Prelude.{◌≡◌, ◌≢◌, ◌<◌, ◌≤◌, ◌==◌, ℕ, List, [], ◌∷◌, filter, length, Some, slice_get, option_map}
 use Rattle.merlin_model.specs.declared.network.HostAddress.{HostAddress}
-use Rattle.merlin_model.specs.declared.network.Kind.TheVariants.{Host, Switch}
+use Rattle.merlin_model.specs.declared.network.LocationKind.TheVariants.{Host, Switch}
 use Rattle.merlin_model.specs.declared.network.Location.{Location}
 use Rattle.merlin_model.specs.declared.network.DirectedLink.{DirectedLink}
 use Rattle.topology.specs.declared.limits.TheConstants.{MAX_HOSTS}

@@ -1,7 +1,7 @@
 -- What is looked up in a network.
 use Rattle.std.specs.Prelude.{ℕ, List, Option, slice_get, option_map}
-use Rattle.merlin_model.specs.declared.network.Kind.{Kind}
-use Rattle.merlin_model.specs.declared.network.Kind.TheVariants.{Host, Switch, Middlebox}
+use Rattle.merlin_model.specs.declared.network.LocationKind.{LocationKind}
+use Rattle.merlin_model.specs.declared.network.LocationKind.TheVariants.{Host, Switch, Middlebox}
 use Rattle.merlin_model.specs.declared.network.Place.{Place}
 use Rattle.merlin_model.specs.declared.network.Place.TheVariants as place
 use Rattle.merlin_model.specs.Networks.{Network, kind_of}
@@ -11,7 +11,7 @@ use Rattle.merlin_model.specs.declared.network.DirectedLink.{DirectedLink}
 abbrev pub name_of : Network → ℕ → Option (List ℕ)
 name_of net loc = option_map (λ l. l.name) (slice_get net.locations loc)
 
-abbrev pub place_of_kind : Kind → Place
+abbrev pub place_of_kind : LocationKind → Place
 place_of_kind (Host address) = place.Host
 place_of_kind Switch = place.Switch
 place_of_kind Middlebox = place.Middlebox

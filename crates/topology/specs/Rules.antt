@@ -4,7 +4,7 @@ use Rattle.std.specs.List.{AllByRecursion, filter_map}
 use Rattle.merlin_base.specs.Lexemes.{IsName}
 use Rattle.merlin_model.specs.declared.network.HostAddress.{HostAddress}
 use Rattle.merlin_model.specs.declared.network.Location.{Location}
-use Rattle.merlin_model.specs.declared.network.Kind.TheVariants.{Middlebox}
+use Rattle.merlin_model.specs.declared.network.LocationKind.TheVariants.{Middlebox}
 use Rattle.topology.specs.declared.limits.TheConstants.{MAX_LOCATIONS, MAX_HOSTS, MAX_LINKS, MAX_PORT}
 use Rattle.merlin_model.specs.Networks.{Network, IsNetwork, address_at, address_of, directed_links}
 

@@ -11,7 +11,9 @@ mod rules;
 mod shape;
 
 pub use fault::NetFault;
-pub use merlin_model::network::{DirectedLink, FnDecl, HostAddress, Kind, Link, Location, Place};
+pub use merlin_model::network::{
+    DirectedLink, FnDecl, HostAddress, Link, Location, LocationKind, Place,
+};
 pub use merlin_model::policy::Ends;
 pub use net::Topology;
 pub use reader::read;

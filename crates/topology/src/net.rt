@@ -9,7 +9,7 @@ use crate::index::number_of;
 use crate::rules::Tables;
 use indexmap::IndexSet;
 use merlin_base::Name;
-use merlin_model::network::{FnDecl, HostAddress, Kind, Link, Location, Place};
+use merlin_model::network::{FnDecl, HostAddress, Link, Location, LocationKind, Place};
 use std::marker::Model;
 
 /// A network that was read, with tables for what is looked up. Locations and links are numbered from 0 in the order of the text.
@@ -57,9 +57,9 @@ impl Topology {
         ensures { place_at self.now loc ≡ Some result }
     {
         match self.locations[loc].kind {
-            Kind::Host(_) => Place::Host,
-            Kind::Switch => Place::Switch,
-            Kind::Middlebox => Place::Middlebox,
+            LocationKind::Host(_) => Place::Host,
+            LocationKind::Switch => Place::Switch,
+            LocationKind::Middlebox => Place::Middlebox,
         }
     }
 
@@ -69,8 +69,8 @@ impl Topology {
         ensures { result ≡ address_of self.now loc }
     {
         match self.locations[loc].kind {
-            Kind::Host(address) => Some(address),
-            Kind::Switch | Kind::Middlebox => None,
+            LocationKind::Host(address) => Some(address),
+            LocationKind::Switch | LocationKind::Middlebox => None,
         }
     }
 

@@ -11,7 +11,7 @@ use crate::fault::NetFault;
 use crate::index::table_of;
 use crate::limits::MAX_HOSTS;
 use indexmap::IndexMap;
-use merlin_model::network::{DirectedLink, HostAddress, Kind, Link, Location};
+use merlin_model::network::{DirectedLink, HostAddress, Link, Location, LocationKind};
 use std::alloc::{AllocError, Global};
 
 // What is looked up of directed links.
@@ -29,7 +29,7 @@ fn hosts_of(alloc: Global, locations: &[Location]) -> Result<Vec<HostAddress>, A
 {
     let mut hosts = Vec::new(alloc);
     for location in locations {
-        if let Kind::Host(address) = location.kind {
+        if let LocationKind::Host(address) = location.kind {
             hosts.push(address)?;
         }
     }
@@ -158,7 +158,7 @@ fn is_linked(locations: &[Location], directed_links: &[DirectedLink], loc: usize
 {
     match only_link(directed_links, loc) {
         Some(directed) => match locations.get(directed.to) {
-            Some(location) => matches!(location.kind, Kind::Switch),
+            Some(location) => matches!(location.kind, LocationKind::Switch),
             None => false,
         },
         None => false,
@@ -170,8 +170,8 @@ fn keeps_host_link(locations: &[Location], directed_links: &[DirectedLink], loc:
     ensures { IsTrue result ↔ IsLinkedIfHost locations.now directed_links.now loc }
 {
     match locations[loc].kind {
-        Kind::Host(_) => is_linked(locations, directed_links, loc),
-        Kind::Switch | Kind::Middlebox => true,
+        LocationKind::Host(_) => is_linked(locations, directed_links, loc),
+        LocationKind::Switch | LocationKind::Middlebox => true,
     }
 }
 
@@ -190,7 +190,5 @@ pub(crate) fn hosts_are_linked(locations: &[Location], directed_links: &[Directe
 pub(crate) fn have_no_middlebox(locations: &[Location]) -> bool
     ensures { IsTrue result ↔ HaveNoMiddlebox locations.now }
 {
-    locations
-        .iter()
-        .all(|location| !matches!(location.kind, Kind::Middlebox))
+    locations.iter().all(|location| !matches!(location.kind, LocationKind::Middlebox))
 }

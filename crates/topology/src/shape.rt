@@ -3,7 +3,7 @@ ghost use Rattle.std.specs.Prelude.{◌≡◌, ◌≤◌, ◌↔◌, ℕ, List, 
 ghost use Rattle.serde_json.specs.Data.{Data};
 ghost use Rattle.serde_json.specs.View.{view};
 ghost use Rattle.merlin_base.specs.Lexemes.{IsMac, IsIp, IsRate};
-ghost use Rattle.merlin_model.specs.declared.network.Kind.{Kind};
+ghost use Rattle.merlin_model.specs.declared.network.LocationKind.{LocationKind};
 ghost use Rattle.merlin_model.specs.declared.network.Location.{Location};
 ghost use Rattle.merlin_model.specs.declared.network.Link.{Link};
 ghost use Rattle.merlin_model.specs.Networks.{AreDifferent};
@@ -17,7 +17,7 @@ use crate::index::number_of;
 use crate::limits::{MAX_LINK_WEIGHT, MAX_LINKS, MAX_LOCATIONS, MAX_PORT};
 use indexmap::IndexSet;
 use merlin_base::{ip_value, is_name, mac_value, name_from, rate_value};
-use merlin_model::network::{HostAddress, Kind, Link, Location};
+use merlin_model::network::{HostAddress, Link, Location, LocationKind};
 use serde_json::Value;
 use std::alloc::Global;
 
@@ -42,14 +42,14 @@ fn host_of(value: &Value) -> Option<HostAddress>
     Some(HostAddress { eth, ip })
 }
 
-fn kind_of(value: &Value) -> Option<Kind>
+fn kind_of(value: &Value) -> Option<LocationKind>
     ensures some { IfSome result (HasKind (view value.now)) }
-    ensures none { IfNone result ((kind : Kind) → ¬ HasKind (view value.now) kind) }
+    ensures none { IfNone result ((kind : LocationKind) → ¬ HasKind (view value.now) kind) }
 {
     match text_under(value, "kind")? {
-        "host" => Some(Kind::Host(host_of(value)?)),
-        "switch" => Some(Kind::Switch),
-        "middlebox" => Some(Kind::Middlebox),
+        "host" => Some(LocationKind::Host(host_of(value)?)),
+        "switch" => Some(LocationKind::Switch),
+        "middlebox" => Some(LocationKind::Middlebox),
         _ => None,
     }
 }

@@ -1,7 +1,7 @@
 -- A small result in all its parts, and its text.
 use Rattle.std.specs.Prelude.{ℕ, List, [], ◌∷◌, map, None, Some, pos, negsuc, false, codes}
-use Rattle.merlin_model.specs.declared.network.Kind.{Kind}
-use Rattle.merlin_model.specs.declared.network.Kind.TheVariants.{Host, Switch, Middlebox}
+use Rattle.merlin_model.specs.declared.network.LocationKind.{LocationKind}
+use Rattle.merlin_model.specs.declared.network.LocationKind.TheVariants.{Host, Switch, Middlebox}
 use Rattle.merlin_model.specs.declared.network.Location.{Location}
 use Rattle.merlin_model.specs.declared.network.FnDecl.{FnDecl}
 use Rattle.merlin_model.specs.declared.policy.Symbol.{Symbol}
@@ -16,7 +16,7 @@ use Rattle.merlin_model.specs.Words.{at}
 use Rattle.config_text.specs.Words.{line}
 use Rattle.config_text.specs.Result.{result_lines}
 
-abbrev pub location : List ℕ → Kind → Location
+abbrev pub location : List ℕ → LocationKind → Location
 location name kind = record { name = name; kind = kind }
 
 abbrev pub function : List ℕ → FnDecl

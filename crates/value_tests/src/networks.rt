@@ -2,6 +2,7 @@
 
 use config_text::{Action, Actions, Config, Match, Out, Rule, Vlan};
 use merlin_base::OutOfMemory;
+pub use merlin_model::config::ANY;
 use packet_model::{Packet, packet_of};
 use sqlite_items::Items;
 use std::alloc::Global;
@@ -26,20 +27,6 @@ pub const TWO_SWITCHES: &[u8] =
 pub const IP_1: u32 = 0x0a00_0001;
 
 pub const IP_2: u32 = 0x0a00_0002;
-
-/// The match that names nothing.
-pub const ANY: Match = Match {
-    in_port: None,
-    dl_src: None,
-    dl_dst: None,
-    dl_vlan: None,
-    dl_type: false,
-    nw_proto: None,
-    nw_src: None,
-    nw_dst: None,
-    tp_src: None,
-    tp_dst: None,
-};
 
 /// The match of untagged frames from h1, which is at port 1, to h2.
 pub const FORTH: Match = Match {

@@ -8,7 +8,7 @@ use crate::networks::{
     web_packet,
 };
 use config_text::{Action, Config, HostLine, HostMatch, Match, Out};
-use packet_model::{Field, Packet};
+use packet_model::Packet;
 use packet_trace::{End, Visit, fitting_rule, trace_plain};
 use sqlite_items::Items;
 use std::alloc::{AllocError, Global};
@@ -31,26 +31,10 @@ fn visit_text(alloc: Global, visit: &Visit) -> Result<String, AllocError> {
     }
 }
 
-/// Whether two packets have the same fields.
-fn are_equal(a: &Packet, b: &Packet) -> bool {
-    let fields = [
-        Field::EthSrc,
-        Field::EthDst,
-        Field::IpSrc,
-        Field::IpDst,
-        Field::Proto,
-        Field::Sport,
-        Field::Dport,
-    ];
-    fields
-        .iter()
-        .all(|field| a.value(*field) == b.value(*field))
-}
-
 fn end_text(alloc: Global, end: End, packet: Packet) -> Result<String, AllocError> {
     match end {
         End::Delivered { host, packet: got } => {
-            let word = if are_equal(&got, &packet) {
+            let word = if got == packet {
                 "delivered"
             } else {
                 "changed"

@@ -1,7 +1,7 @@
 //! The tokens of a policy text.
 
 use merlin_base::OutOfMemory;
-use merlin_text::{Kind, Sign, Token, TokenFault, Word, tokens};
+use merlin_text::{Sign, Token, TokenFault, Kind, Word, tokens};
 use std::alloc::Global;
 
 fn word_text(word: Word) -> &'static str {

@@ -9,7 +9,7 @@ returns-in-Some-clause-some c = split_line c.args.unclosed c.args.text.now c.in-
 
 pub returns-in_err-rest-2-clause-none : goal.returns-in_err-rest-2-clause-none
 returns-in_err-rest-2-clause-none c =
-    rw c.from_residual-in_err-rest-2.ensures (no_leaf_line c.args.unclosed c.args.text.now c.in-Some-after.weights.now c.in-Some-after.ensures.some c.in_err-rest-2.ensures.none)
+    rw c.from_residual-in_err-rest-2.ensures (no_leaf_line c.args.unclosed c.args.text.now c.in-Some-strip_front.weights.now c.in-Some-strip_front.ensures.some c.in_err-rest-2.ensures.none)
 
-pub returns-in-Some-after-clause-some : goal.returns-in-Some-after-clause-some
-returns-in-Some-after-clause-some c = leaf_line c.args.unclosed c.args.text.now c.in-Some-after.weights.now c.in_ok-rest-2.rest.now c.in-Some-after.ensures.some c.in_ok-rest-2.ensures.some
+pub returns-in-Some-strip_front-clause-some : goal.returns-in-Some-strip_front-clause-some
+returns-in-Some-strip_front-clause-some c = leaf_line c.args.unclosed c.args.text.now c.in-Some-strip_front.weights.now c.in_ok-rest-2.rest.now c.in-Some-strip_front.ensures.some c.in_ok-rest-2.ensures.some

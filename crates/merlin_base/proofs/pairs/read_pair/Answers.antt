@@ -1,4 +1,4 @@
-use Rattle.std.proofs.Common.{◌≡◌, ◌^◌, to_z, of_z, w64, arith}
+use Rattle.std.proofs.Common.{◌≡◌, ◌<◌, ◌≤◌, nat_abs, ◌^◌, to_z, of_z, w64, arith}
 use Rattle.std.proofs.lemmas.Int.{ints}
 use Rattle.merlin_base.proofs.Decimals.{between}
 use Rattle.merlin_base.proofs.PairTexts.{has-parts, no_colon, pair_is}
@@ -20,14 +20,12 @@ returns-in_default-split_at_byte-clause-none c = λ pair rest small limit begins
 
 pub returns-in_default-read_number-clause-none : goal.returns-in_default-read_number-clause-none
 returns-in_default-read_number-clause-none c = λ pair rest small limit begins e.
-    let l = c.requires in
-    let parts = has-parts c.args.text.now c.in-Some.numbers.now c.in-Some-split_at_byte.first.now c.in-Some-split_at_byte.behind.now c.cut_before.result.0.now c.cut_before.result.1.now pair rest c.in-Some.ensures.some c.in-Some-split_at_byte.ensures.some.0 c.in-Some-split_at_byte.ensures.some.1
-    c.cut_before.ensures.whole c.cut_before.ensures.lacks c.cut_before.ensures.begins (small, omega arith) begins e in
+    let l = c.requires in let small_pair : (pair.0 < 10 ^ 19) × (nat_abs pair.1 ≤ 2 ^ 60) = (small, omega arith) in
+    let parts = has-parts _ _ _ _ _ _ pair rest c.in-Some.ensures.some c.in-Some-split_at_byte.ensures.some.0 c.in-Some-split_at_byte.ensures.some.1 c.cut_before.ensures.whole c.cut_before.ensures.lacks c.cut_before.ensures.begins small_pair begins e in
     c.in_default-read_number.ensures.none pair.0 small parts.number
 
 pub returns-in_default-read_whole-clause-none : goal.returns-in_default-read_whole-clause-none
 returns-in_default-read_whole-clause-none c = λ pair rest small limit begins e.
-    let l = c.requires in
-    let parts = has-parts c.args.text.now c.in-Some.numbers.now c.in-Some-split_at_byte.first.now c.in-Some-split_at_byte.behind.now c.cut_before.result.0.now c.cut_before.result.1.now pair rest c.in-Some.ensures.some c.in-Some-split_at_byte.ensures.some.0 c.in-Some-split_at_byte.ensures.some.1
-    c.cut_before.ensures.whole c.cut_before.ensures.lacks c.cut_before.ensures.begins (small, omega arith) begins e in
+    let l = c.requires in let small_pair : (pair.0 < 10 ^ 19) × (nat_abs pair.1 ≤ 2 ^ 60) = (small, omega arith) in
+    let parts = has-parts _ _ _ _ _ _ pair rest c.in-Some.ensures.some c.in-Some-split_at_byte.ensures.some.0 c.in-Some-split_at_byte.ensures.some.1 c.cut_before.ensures.whole c.cut_before.ensures.lacks c.cut_before.ensures.begins small_pair begins e in
     c.in_default-read_whole.ensures.none pair.1 limit parts.whole

@@ -1,6 +1,6 @@
 use Rattle.std.proofs.Common.{arith, subst}
 use Rattle.merlin_base.specs.Lexemes.{IsMac}
-use Rattle.merlin_text.specs.Fronts.{GoesOn}
+use Rattle.merlin_text.specs.Fronts.{IsByteOf}
 use Rattle.merlin_text.specs.Tokens.{EndsBefore}
 use Rattle.merlin_text.specs.declared.pieces.Run.TheVariants as runs
 use Rattle.merlin_text.proofs.Fronts.{mac_front}
@@ -19,6 +19,6 @@ returns-in_err-mac-clause-none c =
 pub returns-else-ends_before-clause-none : goal.returns-else-ends_before-clause-none
 returns-else-ends_before-clause-none c = λ mac rest n e is.
     let front = mac_front c.args.text.now mac rest n e is.is in
-    let ends : EndsBefore (GoesOn runs.Mac) c.split_at.result.1.now = rw c.split_at.ensures.back (subst (EndsBefore (GoesOn runs.Mac)) front.1 is.ends) in
+    let ends : EndsBefore (IsByteOf runs.Mac) c.split_at.result.1.now = rw c.split_at.ensures.back (subst (EndsBefore (IsByteOf runs.Mac)) front.1 is.ends) in
     let clash : ⊥ = cc (c.if-ends_before.ensures.1 ends) in
     clash

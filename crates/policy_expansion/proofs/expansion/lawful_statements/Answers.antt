@@ -2,7 +2,7 @@ use Rattle.std.proofs.Common.{List, [], subst}
 use Rattle.std.proofs.lemmas.Result.{err_from_is_err_and}
 use Rattle.policy_grammar.specs.declared.written.WrittenStatement.{WrittenStatement}
 use Rattle.policy_grammar.specs.declared.written.WrittenPolicy.{WrittenPolicy}
-use Rattle.policy_expansion.specs.WrittenOut.{listed}
+use Rattle.policy_expansion.specs.WrittenOut.{without_formula}
 use Rattle.policy_expansion.specs.Adding.{Adds}
 use Rattle.policy_expansion.specs.Tables.{under}
 use Rattle.policy_expansion.proofs.Ordered.{by_names, by_count, by_ids, no_fault, as_statements}
@@ -10,7 +10,7 @@ use Rattle.policy_expansion.proofs.expansion.lawful_statements.Goals as goal
 
 pub returns-in_err-ask_names-clause-err : goal.returns-in_err-ask_names-clause-err
 returns-in_err-ask_names-clause-err c =
-    let w : WrittenPolicy = listed c.args.sets.now c.args.items c.args.default_path.now in
+    let w : WrittenPolicy = without_formula c.args.sets.now c.args.items c.args.default_path.now in
     let sets = c.in_ok-known.ensures.ok in
     let names = rw c.as_slice-list.ensures at c.in_err-ask_names.ensures.err in
     let p = err_from_is_err_and c.from_residual-in_err-ask_names.result c.from_residual-in_err-ask_names.ensures.1 in
@@ -18,7 +18,7 @@ returns-in_err-ask_names-clause-err c =
 
 pub returns-in_err-ask_count-clause-err : goal.returns-in_err-ask_count-clause-err
 returns-in_err-ask_count-clause-err c =
-    let w : WrittenPolicy = listed c.args.sets.now c.args.items c.args.default_path.now in
+    let w : WrittenPolicy = without_formula c.args.sets.now c.args.items c.args.default_path.now in
     let sets = c.in_ok-known.ensures.ok in
     let names = rw c.as_slice-list.ensures at c.in_ok-ask_names.ensures.ok in
     let count = rw c.as_slice-list.ensures at c.in_err-ask_count.ensures.err in
@@ -27,7 +27,7 @@ returns-in_err-ask_count-clause-err c =
 
 pub returns-in_err-ask_ids-clause-err : goal.returns-in_err-ask_ids-clause-err
 returns-in_err-ask_ids-clause-err c =
-    let w : WrittenPolicy = listed c.args.sets.now c.args.items c.args.default_path.now in
+    let w : WrittenPolicy = without_formula c.args.sets.now c.args.items c.args.default_path.now in
     let sets = c.in_ok-known.ensures.ok in
     let names = rw c.as_slice-list.ensures at c.in_ok-ask_names.ensures.ok in
     let count = rw c.as_slice-list.ensures at c.in_ok-ask_count.ensures.ok in
@@ -37,7 +37,7 @@ returns-in_err-ask_ids-clause-err c =
 
 pub returns-clause-ok : goal.returns-clause-ok
 returns-clause-ok c =
-    let w : WrittenPolicy = listed c.args.sets.now c.args.items c.args.default_path.now in
+    let w : WrittenPolicy = without_formula c.args.sets.now c.args.items c.args.default_path.now in
     let sets = c.in_ok-known.ensures.ok in
     let names = rw c.as_slice-list.ensures at c.in_ok-ask_names.ensures.ok in
     let count = rw c.as_slice-list.ensures at c.in_ok-ask_count.ensures.ok in

@@ -1,11 +1,11 @@
 use Rattle.std.proofs.Common.{◌≡◌, List, [], ◌∷◌, length}
 use Rattle.policy_grammar.specs.declared.written.WrittenSet.{WrittenSet}
 use Rattle.policy_grammar.specs.Lexemes.{lexemes}
-use Rattle.policy_grammar.specs.Machine.{item, run, at}
+use Rattle.policy_grammar.specs.Machine.{item, run, awaiting}
 use Rattle.policy_parser.proofs.items.items.Given as goal
 
 abbrev pub invariant-items : goal.invariant-items
-invariant-items l = (sets : List WrittenSet) → run (lexemes l.bytes l.fn.tokens) (at (item (record { sets = sets; items = [] }) ∷ []) 0) ≡ run (lexemes l.bytes l.rest) (at (item (record { sets = sets; items = l.items }) ∷ []) 0)
+invariant-items l = (sets : List WrittenSet) → run (lexemes l.bytes l.fn.tokens) (awaiting (item (record { sets = sets; items = [] }) ∷ []) 0) ≡ run (lexemes l.bytes l.rest) (awaiting (item (record { sets = sets; items = l.items }) ∷ []) 0)
 
 abbrev pub decreases-items : goal.decreases-items
 decreases-items l = length l.rest

@@ -2,13 +2,13 @@ use Rattle.std.proofs.Common.{◌≡◌, ◌≤◌, List, [], ◌∷◌, ℕ, le
 use Rattle.merlin_model.specs.declared.policy.Pred.{Pred}
 use Rattle.policy_grammar.specs.declared.written.RawPath.{RawPath}
 use Rattle.policy_grammar.specs.Lexemes.{lexemes}
-use Rattle.policy_grammar.specs.Machine.{Heading, limit, run, at}
+use Rattle.policy_grammar.specs.Machine.{Heading, limit, run, awaiting}
 use Rattle.policy_parser.specs.Goes.{opened}
 use Rattle.policy_parser.proofs.items.limits.Given as goal
 
 abbrev pub invariant-limits : goal.invariant-limits
 invariant-limits l = record {
-  goes : (bytes : List ℕ) (h : Heading) (pred : Pred) (path : RawPath) → run (lexemes bytes l.fn.tokens) (at (limit (opened h pred path []) ∷ []) 0) ≡ run (lexemes bytes l.rest) (at (limit (opened h pred path l.limits) ∷ []) 0);
+  goes : (bytes : List ℕ) (h : Heading) (pred : Pred) (path : RawPath) → run (lexemes bytes l.fn.tokens) (awaiting (limit (opened h pred path []) ∷ []) 0) ≡ run (lexemes bytes l.rest) (awaiting (limit (opened h pred path l.limits) ∷ []) 0);
   shorter : length l.rest ≤ length l.fn.tokens;
 }
 

@@ -1,4 +1,4 @@
-use Rattle.std.proofs.Common.{List, ℕ, ◌++◌, sym, subst}
+use Rattle.std.proofs.Common.{◌++◌, sym, subst}
 use Rattle.std.specs.Prelude.{codes}
 use Rattle.rate_formula.specs.FormulaLexemes.{IsWritable, HasLexemes, formula_lexemes}
 use Rattle.policy_expansion.specs.declared.policy.Policy.{Policy}

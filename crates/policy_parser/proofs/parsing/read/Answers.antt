@@ -3,14 +3,14 @@ use Rattle.merlin_text.specs.declared.token.Token.{Token}
 use Rattle.policy_grammar.proofs.PolicyTexts.{sound}
 use Rattle.policy_grammar.specs.Grammar.{StandsFor}
 use Rattle.policy_grammar.specs.Lexemes.{lexemes}
-use Rattle.policy_grammar.specs.Machine.{run, start}
+use Rattle.policy_grammar.specs.Machine.{run, first_state}
 use Rattle.policy_parser.specs.Policies.{place_of}
 use Rattle.policy_parser.proofs.Told.{few_left, stops}
 use Rattle.policy_parser.proofs.parsing.read.Goals as goal
 
 -- the same tokens stop at the same place
-same_stop : (text : List ℕ) (ts us : List Token) (left : ℕ) → us ≡ ts → run (lexemes text us) start ≡ Err left → run (lexemes text ts) start ≡ Err left
-same_stop text ts us left e stop = subst (λ vs. run (lexemes text vs) start ≡ Err left) e stop
+same_stop : (text : List ℕ) (ts us : List Token) (left : ℕ) → us ≡ ts → run (lexemes text us) first_state ≡ Err left → run (lexemes text ts) first_state ≡ Err left
+same_stop text ts us left e stop = subst (λ vs. run (lexemes text vs) first_state ≡ Err left) e stop
 
 pub overflow_sub-count : goal.overflow_sub-count
 overflow_sub-count c = rw c.len-count.ensures (few_left c.args.bytes.now _ _ (same_stop _ _ _ _ c.copy.ensures (rw c.in-Err-Syntax.field-0-is at c.in-Err-Syntax.ensures)))

@@ -1,7 +1,8 @@
 use Rattle.std.proofs.Common.{◌≡◌, ◌+◌, ◌<◌, ◌*◌, List, [], ◌∷◌, length}
+use Rattle.policy_grammar.specs.declared.limits.TheConstants.{MAX_NESTING}
 use Rattle.policy_grammar.specs.declared.written.RawPath.{RawPath}
 use Rattle.policy_grammar.specs.Lexemes.{lexemes}
-use Rattle.policy_grammar.specs.Machine.{Awaited, rep, reps, alts, opens, run, at}
+use Rattle.policy_grammar.specs.Machine.{Awaited, rep, reps, alts, opens, run, awaiting}
 use Rattle.policy_parser.proofs.paths.+path_of.Given as goal
 
 -- a bracket or a bang takes from the room, and the readers call each other in turn
@@ -19,7 +20,7 @@ decreases-group l = 4 * l.room + 3
 
 abbrev pub invariant-sequence-reps : goal.invariant-sequence-reps
 invariant-sequence-reps l = record {
-  goes : (k : List Awaited) (ps : List RawPath) → opens k + l.room ≡ 128 → run (lexemes l.bytes l.fn.tokens) (at (rep ∷ reps [] ∷ alts ps ∷ k) l.fn.left) ≡ run (lexemes l.bytes l.rest) (at (reps l.parts ∷ alts ps ∷ k) l.spare);
+  goes : (k : List Awaited) (ps : List RawPath) → opens k + l.room ≡ MAX_NESTING → run (lexemes l.bytes l.fn.tokens) (awaiting (rep ∷ reps [] ∷ alts ps ∷ k) l.fn.left) ≡ run (lexemes l.bytes l.rest) (awaiting (reps l.parts ∷ alts ps ∷ k) l.spare);
   shorter : length l.rest < length l.fn.tokens;
 }
 
@@ -28,7 +29,7 @@ decreases-sequence-reps l = length l.rest
 
 abbrev pub invariant-path_of-alternatives : goal.invariant-path_of-alternatives
 invariant-path_of-alternatives l = record {
-  goes : (k : List Awaited) → opens k + l.room ≡ 128 → run (lexemes l.bytes l.fn.tokens) (at (rep ∷ reps [] ∷ alts [] ∷ k) l.fn.left) ≡ run (lexemes l.bytes l.rest) (at (alts l.parts ∷ k) l.spare);
+  goes : (k : List Awaited) → opens k + l.room ≡ MAX_NESTING → run (lexemes l.bytes l.fn.tokens) (awaiting (rep ∷ reps [] ∷ alts [] ∷ k) l.fn.left) ≡ run (lexemes l.bytes l.rest) (awaiting (alts l.parts ∷ k) l.spare);
   shorter : length l.rest < length l.fn.tokens;
 }
 

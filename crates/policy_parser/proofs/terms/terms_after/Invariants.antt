@@ -4,12 +4,12 @@ use Rattle.policy_grammar.specs.declared.written.Item.{Item}
 use Rattle.policy_grammar.specs.declared.written.RawPath.{RawPath}
 use Rattle.policy_grammar.specs.declared.written.WrittenSet.{WrittenSet}
 use Rattle.policy_grammar.specs.Lexemes.{lexemes}
-use Rattle.policy_grammar.specs.Machine.{term, run, at}
-use Rattle.policy_parser.specs.Goes.{policy_of}
+use Rattle.policy_grammar.specs.Machine.{term, run, awaiting}
+use Rattle.policy_parser.specs.Goes.{policy_with}
 use Rattle.policy_parser.proofs.terms.terms_after.Given as goal
 
 abbrev pub invariant-terms : goal.invariant-terms
-invariant-terms l = (sets : List WrittenSet) (items : List Item) (default : Option RawPath) → run (lexemes l.bytes l.fn.tokens) (at (term (policy_of sets items default []) ∷ []) 0) ≡ run (lexemes l.bytes l.rest) (at (term (policy_of sets items default l.terms) ∷ []) 0)
+invariant-terms l = (sets : List WrittenSet) (items : List Item) (default : Option RawPath) → run (lexemes l.bytes l.fn.tokens) (awaiting (term (policy_with sets items default []) ∷ []) 0) ≡ run (lexemes l.bytes l.rest) (awaiting (term (policy_with sets items default l.terms) ∷ []) 0)
 
 abbrev pub decreases-terms : goal.decreases-terms
 decreases-terms l = length l.rest

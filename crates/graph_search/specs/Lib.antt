@@ -1,0 +1,4 @@
+pub mod Graphs
+pub mod Frontiers
+pub mod Departures
+pub mod Searching

@@ -9,10 +9,14 @@ use Rattle.fair_share.specs.declared.fault.DemandFault.{DemandFault}
 use Rattle.fair_share.specs.declared.fault.DemandFault.TheVariants.{Json, Shape, TooLarge, DuplicateName, UnknownCap, OutOfMemory}
 use Rattle.fair_share.specs.declared.entry.Entry.{Entry}
 use Rattle.fair_share.specs.declared.entry.Part.{Part}
+use Rattle.fair_share.specs.declared.entry.PartFault.{PartFault}
+use Rattle.fair_share.specs.declared.entry.PartFault.TheVariants as part
 use Rattle.fair_share.specs.Json.{HasItems}
 use Rattle.fair_share.specs.Format.{IsEntryOf, HasEntries}
 use Rattle.fair_share.specs.Shape.{IsWrongPart, HasWrongElement, element_words, IsWrongArray}
-use Rattle.fair_share.specs.Failing.{FailsAs, IsLawful}
+use Rattle.fair_share.specs.declared.entry.Entries.{Entries}
+use Rattle.fair_share.specs.Reading.{AreWritten, AreRefused, Refuses}
+use Rattle.fair_share.specs.Failing.{FailsAs, FailsAsPart, FailsAsUnknown, IsLawful}
 
 pub fails-weaker : (P Q : List ℕ → Type 0) → ((words : List ℕ) → P words → Q words) → (fault : DemandFault) → FailsAs P fault → FailsAs Q fault
 fails-weaker P Q f Json h = h
@@ -56,15 +60,19 @@ module _ {V : Type 0} (view : V → Data) (key rate_key : List ℕ) (d : Data) (
 
   pub wrong-entry : (entries : List Entry) (i : ℕ) (v : V) (part : Part) (what : List ℕ) → i < length vs → v ≡ get_or vs i v → AllZip (IsEntryOf rate_key) (take i (map view vs)) entries → IsWrongPart rate_key (view v) part →
       what ≡ element_words key rate_key i part → IsWrongArray key rate_key d what
-  wrong-entry entries i v part what l e z wrong words = inr (map view vs, has, record {
-    place = i;
-    item = view v;
-    stands = viewed-at view vs i v l e;
-    part = part;
-    wrong = wrong;
-    before = λ j x lt f. zip-at (IsEntryOf rate_key) (map view vs) entries i j x z lt f;
-    words = words;
-  })
+  wrong-entry entries i v part what l e z wrong words = inr (
+    map view vs,
+    has,
+    record {
+      place = i;
+      item = view v;
+      stands = viewed-at view vs i v l e;
+      part = part;
+      wrong = wrong;
+      before = λ j x lt f. zip-at (IsEntryOf rate_key) (map view vs) entries i j x z lt f;
+      words = words;
+    },
+  )
 
   pub all-entries : (entries : List Entry) (i : ℕ) → length vs ≤ i → AllZip (IsEntryOf rate_key) (take i (map view vs)) entries → HasEntries key rate_key d entries
   all-entries entries i past z = (map view vs, has, subst (λ (front : List Data). AllZip (IsEntryOf rate_key) front entries) (take_all i (map view vs) (let s = viewed-long vs in omega arith)) z)
@@ -82,3 +90,23 @@ lawful key rate_key d entries has = by has.0 entries has.2
     by [] (e ∷ es) z = absurd z
     by (i ∷ items) [] z = absurd z
     by (i ∷ items) (e ∷ es) z = ((z.0.name.form, z.0.rate.form.few), by items es z.1)
+
+pub unknown-weaker : (P Q : List ℕ → Type 0) → ((name : List ℕ) → P name → Q name) → (fault : DemandFault) → FailsAsUnknown P fault → FailsAsUnknown Q fault
+unknown-weaker P Q f Json h = h
+unknown-weaker P Q f (Shape what) h = h
+unknown-weaker P Q f (TooLarge what count) h = h
+unknown-weaker P Q f (DuplicateName name) h = h
+unknown-weaker P Q f (UnknownCap name) h = f name h
+unknown-weaker P Q f OutOfMemory h = h
+
+-- what entries are refused for, their bytes are refused for
+pub refuses : (bytes : List ℕ) (entries : Entries) → AreWritten bytes entries → (fault : DemandFault) → AreRefused entries fault → Refuses bytes fault
+refuses bytes entries w Json h = absurd h
+refuses bytes entries w (Shape what) h = absurd h
+refuses bytes entries w (TooLarge what count) h = (entries, w, h)
+refuses bytes entries w (DuplicateName name) h = (entries, w, h)
+refuses bytes entries w (UnknownCap name) h = (entries, w, h)
+refuses bytes entries w OutOfMemory h = tt
+
+pub wrong-part : (P : Part → Type 0) (fault : PartFault) (which : Part) → fault ≡ part.Wrong which → FailsAsPart P fault → P which
+wrong-part P fault which e h = subst (λ (f : PartFault). FailsAsPart P f) e h

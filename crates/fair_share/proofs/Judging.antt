@@ -1,12 +1,13 @@
 -- Lines that are right, and tenants at fault.
-use Rattle.std.proofs.Common.{◌≡◌, ℕ, zero, suc, ◌+◌, ◌≤◌, ◌<◌, ◌⊎◌, ◌↔◌, inl, inr, Bool, true, false, cond, List, [], ◌∷◌, length, map, filter, sum, Option, None, Some, MatchOption, unwrap_or, slice_get, get_or, refl, sym, ◌∙◌, ap, subst, arith}
+use Rattle.std.proofs.Common.{◌≡◌, ℕ, zero, suc, ◌+◌, ◌≤◌, ◌<◌, ◌⊎◌, ◌↔◌, inl, inr, Bool, true, false, cond, List, [], ◌∷◌, length, map, filter, sum, Option, None, Some, MatchOption, unwrap_or, IfNone, slice_get, get_or, refl, sym, ◌∙◌, ap, subst, arith}
 use Rattle.std.specs.List.{AllZip, zip}
 use Rattle.std.proofs.lemmas.Option.{slice_get_within}
 use Rattle.fair_share.specs.declared.cap.Cap.{Cap}
 use Rattle.fair_share.specs.declared.cap.Tenant.{Tenant}
 use Rattle.fair_share.specs.declared.share.Share.{Share}
-use Rattle.fair_share.specs.Shares.{Demands, IsForest, given_to, is_met, is_beneath, shares_beneath, IsBoundBy, IsRight, AreRight, IsSound, IsUnsound, IsBeneathExcess, IsFirstUnsound, IsFeasible, rates_of}
+use Rattle.fair_share.specs.Shares.{Demands, IsForest, given_to, is_met, is_beneath, shares_beneath, IsBoundBy, IsRight, AreRight, IsDemands, IsBest, IsSound, IsUnsound, IsBeneathExcess, IsFirstUnsound, IsFeasible, rates_of}
 use Rattle.fair_share.specs.Filling.{AreUsed, AreTops, HasRoom, IsPlace, IsBlocked, IsFullAt, IsRightBy, IsFine}
+use Rattle.fair_share.proofs.Levels.{best}
 use Rattle.fair_share.proofs.Nesting.{met-bound}
 use Rattle.fair_share.proofs.Rising.{sum-step}
 use Rattle.fair_share.proofs.Naming.{bound-from, bound-to}
@@ -42,7 +43,7 @@ module _ (d : Demands) (xs used tops : List ℕ) (are : AreUsed d xs used) (top 
   }
 
   pub wrong-line : (IsRightBy d.caps used tops t s → ⊥) → IsUnsound d xs t s
-  wrong-line no = inl (λ right. no (right-to right))
+  wrong-line wrong = inl (λ right. wrong (right-to right))
 
   pub passed-cap : IsBlocked d.caps t.under used 0 → IsUnsound d xs t s
   passed-cap b = inr (inr (record {
@@ -54,7 +55,7 @@ module _ (d : Demands) (xs used tops : List ℕ) (are : AreUsed d xs used) (top 
   }))
 
 pub fine-sound : (d : Demands) (xs : List ℕ) (t : Tenant) (s : Share) → IsFine d xs t s → IsUnsound d xs t s → ⊥
-fine-sound d xs t s f (inl no) = no f.right
+fine-sound d xs t s f (inl wrong) = wrong f.right
 fine-sound d xs t s f (inr (inl more)) = let le = f.demand in omega arith
 fine-sound d xs t s f (inr (inr e)) = let le = f.caps e.place e.cap e.stands e.beneath in let more = e.excess in omega arith
 
@@ -142,3 +143,11 @@ pub line-at : (ss : List Share) (i : ℕ) (d : Share) → i < length ss → slic
 line-at [] i d l = let no : ⊥ = omega arith in absurd no
 line-at (s ∷ ss) zero d l = refl
 line-at (s ∷ ss) (suc i) d l = line-at ss i d (omega arith)
+
+-- where none is at fault the division is best
+pub sound-best : (d : Demands) (shares : List Share) → IsDemands d → IsSound d shares → IsBest d (rates_of shares)
+sound-best d shares is sound = best d shares is.nested sound.feasible sound.right
+
+pub fair-best : (d : Demands) (shares : List Share) (found : Option ℕ) → IsDemands d → MatchOption found (IsSound d shares) (IsFirstUnsound d shares) → IfNone found (IsBest d (rates_of shares))
+fair-best d shares None is h = sound-best d shares is h
+fair-best d shares (Some i) is h = tt

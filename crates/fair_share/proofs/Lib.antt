@@ -17,3 +17,4 @@ pub mod Entries
 pub mod Numbering
 pub mod Repeated
 pub mod OneDivision
+pub mod Printing

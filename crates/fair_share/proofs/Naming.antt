@@ -9,7 +9,6 @@ use Rattle.fair_share.specs.declared.cap.Tenant.{Tenant}
 use Rattle.fair_share.specs.declared.share.Share.{Share}
 use Rattle.fair_share.specs.Shares.{given_to, Demands, is_met, is_beneath, shares_beneath, IsBoundBy, IsRight, rates_of}
 use Rattle.fair_share.specs.Filling.{demands, AreUsed, AreTops, IsSettled, IsFullAt, IsInnermost, IsNamedBy, IsNamed}
-
 use Rattle.fair_share.proofs.Filling.{zero-at}
 
 -- one share more beneath a cap

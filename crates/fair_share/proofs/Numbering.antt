@@ -13,8 +13,10 @@ use Rattle.fair_share.specs.declared.cap.Tenant.{Tenant}
 use Rattle.fair_share.specs.declared.entry.Entry.{Entry}
 use Rattle.fair_share.specs.declared.entry.Entries.{Entries}
 use Rattle.fair_share.specs.Shares.{Demands, IsForest, HavePlaces, IsDemands, names_of}
-use Rattle.fair_share.specs.Reading.{names_in, all_names, AreFew, IsPlaceOf, IsCapOf, IsTenantOf, AreCapsOf, AreTenantsOf, AreDemandsOf, IsFirstRepeated, IsFirstUnknown, IsKnown, AreKnown, names_before, all_names_of}
-use Rattle.fair_share.specs.Failing.{texts_of_keys, IsLawful, AreLawful}
+use Rattle.fair_share.specs.declared.fault.DemandFault.{DemandFault}
+use Rattle.fair_share.specs.declared.fault.DemandFault.TheVariants.{Json, Shape, TooLarge, DuplicateName, UnknownCap, OutOfMemory}
+use Rattle.fair_share.specs.Reading.{AreRefused, names_in, all_names, AreFew, IsPlaceOf, IsCapOf, IsTenantOf, AreCapsOf, AreTenantsOf, AreDemandsOf, IsFirstRepeated, IsFirstUnknown, IsKnown, AreKnown, names_before, all_names_of}
+use Rattle.fair_share.specs.Failing.{IsLawful, AreLawful, FailsAsUnknown}
 
 -- Lists that grow at their end.
 
@@ -230,3 +232,29 @@ are-demands entries d law are = record {
   where
     names : names_of d ≡ all_names entries
     names = ap₂ (λ xs ys. xs ++ ys) (caps-names entries.caps.items d.caps are.caps) (tenants-names (names_in entries.caps.items) entries.tenants.items d.tenants are.tenants)
+
+-- a tenant under no cap, where the caps are what the entries say
+pub refused-tenants : (entries : Entries) (caps : List Cap) (fault : DemandFault) → AreFew entries → AreDifferent (all_names entries) → AreCapsOf entries.caps.items caps →
+    FailsAsUnknown (IsFirstUnknown (λ _. map (λ (c : Cap). c.name) caps) entries.tenants.items) fault → AreRefused entries fault
+refused-tenants entries caps Json few differ are h = h
+refused-tenants entries caps (Shape what) few differ are h = h
+refused-tenants entries caps (TooLarge what count) few differ are h = absurd h
+refused-tenants entries caps (DuplicateName name) few differ are h = absurd h
+refused-tenants entries caps (UnknownCap name) few differ are h =
+    (few, differ, inr (all-known entries.caps.items caps are, subst (λ (ns : List (List ℕ)). IsFirstUnknown (λ _. ns) entries.tenants.items name) (caps-names entries.caps.items caps are) h))
+refused-tenants entries caps OutOfMemory few differ are h = tt
+
+-- entries as demands
+pub as-demands : (entries : Entries) (caps : List Cap) (ts : List Tenant) → AreFew entries → AreDifferent (all_names entries) → AreCapsOf entries.caps.items caps → AreTenantsOf (map (λ (c : Cap). c.name) caps) entries.tenants.items ts →
+    AreDemandsOf entries (record { caps = caps; tenants = ts })
+as-demands entries caps ts few differ are tenants = record {
+  few = few;
+  differ = differ;
+  caps = are;
+  tenants = subst (λ (ns : List (List ℕ)). AreTenantsOf ns entries.tenants.items ts) (caps-names entries.caps.items caps are) tenants;
+}
+
+pub refused-read : (entries : Entries) (caps cs : List Cap) (es : List Entry) (fault : DemandFault) → AreFew entries → AreDifferent (all_names entries) → AreCapsOf entries.caps.items caps → cs ≡ caps → es ≡ entries.tenants.items →
+    FailsAsUnknown (IsFirstUnknown (λ _. map (λ (c : Cap). c.name) cs) es) fault → AreRefused entries fault
+refused-read entries caps cs es fault few differ are e f h = refused-tenants entries caps fault few differ are
+    (subst (λ (zs : List Cap). FailsAsUnknown (IsFirstUnknown (λ _. map (λ (c : Cap). c.name) zs) entries.tenants.items) fault) e (subst (λ (xs : List Entry). FailsAsUnknown (IsFirstUnknown (λ _. map (λ (c : Cap). c.name) cs) xs) fault) f h))

@@ -63,8 +63,8 @@ small {n} h = let t : 1000000000 < 10 ^ 19 = lit< tt in omega arith
 module _ (caps : List Cap) (named : AreNamed caps) (others : List (List ℕ)) (differ : AreDifferent (map (λ (c : Cap). c.name) caps ++ others)) where
   bound-once : (a b : Option ℕ) (x y : List ℕ) → MatchOption a ⊤ (λ c. c < length caps) → MatchOption b ⊤ (λ c. c < length caps) → (bound_text caps a ++ 10 ∷ []) ++ x ≡ (bound_text caps b ++ 10 ∷ []) ++ y → a ≡ b
   bound-once None None x y p q e = refl
-  bound-once None (Some c) x y p q e = let no : 100 ≡ 99 = ap (λ z. unwrap_or (slice_get z 0) 0) e in absurd (omega arith)
-  bound-once (Some c) None x y p q e = let no : 99 ≡ 100 = ap (λ z. unwrap_or (slice_get z 0) 0) e in absurd (omega arith)
+  bound-once None (Some c) x y p q e = let no : ◌≡◌ {A = ℕ} 100 99 = ap (λ (z : List ℕ). unwrap_or (slice_get z 0) 0) e in let f : ⊥ = omega arith in absurd f
+  bound-once (Some c) None x y p q e = let no : ◌≡◌ {A = ℕ} 99 100 = ap (λ (z : List ℕ). unwrap_or (slice_get z 0) 0) e in let f : ⊥ = omega arith in absurd f
   bound-once (Some c) (Some k) x y p q e =
       let tails = append_cancel_left (codes "cap ") (cap_name caps c ++ 10 ∷ x) (cap_name caps k ++ 10 ∷ y) (sym (behind-cap caps _ x c refl) ∙ e ∙ behind-cap caps _ y k refl) in
       let cut : AreSame (cap_name caps c) (cap_name caps k) x y = cut_once 10 (cap_name caps c) (cap_name caps k) x y (cap-name-free caps named c p) (cap-name-free caps named k q) tails in

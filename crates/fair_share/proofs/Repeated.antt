@@ -9,7 +9,9 @@ use Rattle.std.proofs.lemmas.Option.{slice_get_read}
 use Rattle.merlin_model.specs.Networks.{Pairwise, AreDifferent}
 use Rattle.fair_share.specs.declared.entry.Entry.{Entry}
 use Rattle.fair_share.specs.Reading.{names_in, IsFirstRepeated}
-use Rattle.fair_share.specs.Failing.{texts_of_keys}
+use Rattle.fair_share.specs.declared.fault.DemandFault.{DemandFault}
+use Rattle.fair_share.specs.declared.fault.DemandFault.TheVariants.{Json, Shape, TooLarge, DuplicateName, UnknownCap, OutOfMemory}
+use Rattle.fair_share.specs.Failing.{texts_of_keys, FailsAsRepeated}
 
 abbrev Text : Type 0
 Text = Vec ℕ Global
@@ -66,7 +68,7 @@ get-taken (y ∷ xs) (suc n) zero x e = e
 get-taken (y ∷ xs) (suc n) (suc j) x e = get-taken xs n j x e
 
 long-both : {X : Type 0} (xs ys : List X) → length (xs ++ ys) ≡ length xs + length ys
-long-both [] ys = refl
+long-both [] ys = omega arith
 long-both (x ∷ xs) ys = let h = long-both xs ys in omega arith
 
 name-at : (es : List Entry) (i : ℕ) (e : Entry) → i < length es → e ≡ get_or es i e → slice_get (names_in es) i ≡ Some e.name
@@ -148,3 +150,21 @@ repeated-front xs ys name r = record {
     take-in-front [] vs n l = let no : ⊥ = omega arith in absurd no
     take-in-front (u ∷ us) vs zero l = refl
     take-in-front (u ∷ us) vs (suc n) l = ap (λ z. u ∷ z) (take-in-front us vs n (omega arith))
+
+pub not-new : (new there : Bool) → new ≡ not there → new ≡ false → there ≡ true
+not-new new true e f = refl
+not-new new false e f = sym f ∙ e
+
+pub is-new : (new there : Bool) → new ≡ not there → new ≡ true → there ≡ false
+is-new new false e f = refl
+is-new new true e f = absurd (true-false (sym f ∙ e))
+
+-- a name that stands twice among the caps
+pub repeated-caps : (ks : List Text) (es caps tenants : List Entry) (fault : DemandFault) → ks ≡ [] → es ≡ caps → FailsAsRepeated (IsFirstRepeated (texts_of_keys ks ++ names_in es)) fault → FailsAsRepeated (IsFirstRepeated (names_in caps ++ names_in tenants)) fault
+repeated-caps ks es caps tenants Json e f h = h
+repeated-caps ks es caps tenants (Shape what) e f h = h
+repeated-caps ks es caps tenants (TooLarge what count) e f h = h
+repeated-caps ks es caps tenants (DuplicateName name) e f h =
+    repeated-front (names_in caps) (names_in tenants) name (subst (λ (xs : List Entry). IsFirstRepeated (names_in xs) name) f (subst (λ (zs : List Text). IsFirstRepeated (texts_of_keys zs ++ names_in es) name) e h))
+repeated-caps ks es caps tenants (UnknownCap name) e f h = h
+repeated-caps ks es caps tenants OutOfMemory e f h = h

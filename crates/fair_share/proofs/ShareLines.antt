@@ -48,18 +48,37 @@ abbrev pub IsThere : List Cap → Option ℕ → Type 0
 IsThere caps cap = MatchOption cap ⊤ (λ c. c < length caps)
 
 bound-free : (caps : List Cap) → AreNamed caps → (cap : Option ℕ) → IsThere caps cap → Free 10 (bound_text caps cap)
-bound-free caps named None h = ((λ e. omega arith), (λ e. omega arith), (λ e. omega arith), (λ e. omega arith), (λ e. omega arith), (λ e. omega arith), tt)
-bound-free caps named (Some c) h = ((λ e. omega arith), (λ e. omega arith), (λ e. omega arith), (λ e. omega arith), cap-name-free caps named c h)
+bound-free caps named None h = ((λ e. omega arith), ((λ e. omega arith), ((λ e. omega arith), ((λ e. omega arith), ((λ e. omega arith), ((λ e. omega arith), tt))))))
+bound-free caps named (Some c) h = ((λ e. omega arith), ((λ e. omega arith), ((λ e. omega arith), ((λ e. omega arith), cap-name-free caps named c h))))
 
 small : {n : ℕ} → n ≤ 1000000000 → n < 10 ^ 19
 small {n} h = let t : 1000000000 < 10 ^ 19 = lit< tt in omega arith
 
 -- a line has no newline but its last byte
 pub words-free : (caps : List Cap) → AreNamed caps → (t : Tenant) → IsName t.name → (s : Share) → IsShare caps s → Free 10 (share_words caps t s)
-words-free caps named t is s share =
-    ((λ e. omega arith), (λ e. omega arith), (λ e. omega arith), (λ e. omega arith), (λ e. omega arith), (λ e. omega arith),
-    free_append 10 t.name _ (name-free t.name is) ((λ e. omega arith), free_append 10 (decimal s.rate) _ (decimal_free 10 s.rate (small share.rate) (omega arith))
-    ((λ e. omega arith), (λ e. omega arith), (λ e. omega arith), (λ e. omega arith), (λ e. omega arith), bound-free caps named s.cap share.cap)))
+words-free caps named t is s share = (
+  (λ e. omega arith),
+  (
+    (λ e. omega arith),
+    (
+      (λ e. omega arith),
+      (
+        (λ e. omega arith),
+        (
+          (λ e. omega arith),
+          (
+            (λ e. omega arith),
+            free_append 10 t.name _ (name-free t.name is) (
+              (λ e. omega arith),
+              free_append 10 (decimal s.rate) _ (decimal_free 10 s.rate (small share.rate) (omega arith))
+                  ((λ e. omega arith), ((λ e. omega arith), ((λ e. omega arith), ((λ e. omega arith), ((λ e. omega arith), bound-free caps named s.cap share.cap))))),
+            ),
+          ),
+        ),
+      ),
+    ),
+  ),
+)
 
 -- The parts of a line, one behind the other.
 

@@ -21,6 +21,12 @@ text_for caps ts ss = joined (map (λ p. share_line caps p.0 p.1) (zip ts ss))
 abbrev pub AreFor : List Cap → List Tenant → List Share → Type 0
 AreFor caps ts ss = AllZip (λ t s. IsShare caps s) ts ss
 
+take-past : {X : Type 0} (xs : List X) (n : ℕ) → length xs ≤ n → take n xs ≡ xs
+take-past [] zero l = refl
+take-past [] (suc n) l = refl
+take-past (x ∷ xs) zero l = let no : ⊥ = omega arith in absurd no
+take-past (x ∷ xs) (suc n) l = ap (λ z. x ∷ z) (take-past xs n (omega arith))
+
 module _ (caps : List Cap) (named : AreNamed caps) where
   -- a line and what stands behind it
   pub line-behind : (t : Tenant) (s : Share) (front x : List ℕ) → (share_line caps t s ++ front) ++ x ≡ share_words caps t s ++ 10 ∷ (front ++ x)
@@ -90,40 +96,34 @@ module _ (caps : List Cap) (named : AreNamed caps) where
   abbrev IsWrongAt : List Tenant → List ℕ → ℕ → Type 0
   IsWrongAt ts text left = (left ≤ length text) × IsFirstWrongLine (text_for caps ts) (AreFor caps ts) text (length text - left)
 
+  abbrev part-of : Tenant → List Tenant → Share × List Share → List ℕ
+  part-of t later w = share_line caps t w.0 ++ text_for caps later w.1
+
+  abbrev IsPartOf : Tenant → List Tenant → Share × List Share → Type 0
+  IsPartOf t later w = IsShare caps w.0 × AreFor caps later w.1
+
   -- where the line of the next tenant can't follow
   pub wrong-line : (ts later : List Tenant) (t : Tenant) (us : List Share) (text rest : List ℕ) → HaveNames (ts ++ t ∷ later) → HaveNames ts → IsName t.name → AreFor caps ts us → text ≡ text_for caps ts us ++ rest → IsNoShare caps t rest →
       IsWrongAt (ts ++ t ∷ later) text (length rest)
   wrong-line ts later t us text rest names before is a e none = whole_wrong (text_for caps (ts ++ t ∷ later)) (AreFor caps (ts ++ t ∷ later)) text (length rest)
-      (lift_wrong (text_for caps (ts ++ t ∷ later)) (AreFor caps (ts ++ t ∷ later)) part_of IsPart (text_for caps ts us) rest text (length rest) (whole-for ts us) e up down
-      (line_wrong part_of IsPart front behind rest (nothing, nothing-for later) (is-nothing, nothing-is later) splits (λ w h. words-free caps named t is w.0 h.0) first))
+      (lift_wrong (text_for caps (ts ++ t ∷ later)) (AreFor caps (ts ++ t ∷ later)) (part-of t later) (IsPartOf t later) (text_for caps ts us) rest text (length rest) (whole-for ts us) e up down
+      (line_wrong (part-of t later) (IsPartOf t later) (λ w. share_words caps t w.0) (λ w. text_for caps later w.1) rest (nothing, nothing-for later) (is-nothing, nothing-is later) splits (λ w h. words-free caps named t is w.0 h.0) first))
     where
-      abbrev part_of : Share × List Share → List ℕ
-      part_of w = share_line caps t w.0 ++ text_for caps later w.1
-
-      abbrev IsPart : Share × List Share → Type 0
-      IsPart w = IsShare caps w.0 × AreFor caps later w.1
-
-      abbrev front : Share × List Share → List ℕ
-      front w = share_words caps t w.0
-
-      abbrev behind : Share × List Share → List ℕ
-      behind w = text_for caps later w.1
-
-      splits : (w : Share × List Share) → part_of w ≡ front w ++ 10 ∷ behind w
+      splits : (w : Share × List Share) → (share_line caps t w.0 ++ text_for caps later w.1) ≡ share_words caps t w.0 ++ 10 ∷ text_for caps later w.1
       splits w = append_assoc (share_words caps t w.0) (10 ∷ []) (text_for caps later w.1)
 
-      first : (w : Share × List Share) (z : List ℕ) → IsPart w → rest ≡ front w ++ 10 ∷ z → ⊥
+      first : (w : Share × List Share) (z : List ℕ) → (IsShare caps w.0 × AreFor caps later w.1) → rest ≡ share_words caps t w.0 ++ 10 ∷ z → ⊥
       first w z h f = none w.0 z h.0 (f ∙ sym (append_assoc (share_words caps t w.0) (10 ∷ []) z))
 
-      up : (w : Share × List Share) → IsPart w → (v : List Share) × AreFor caps (ts ++ t ∷ later) v × (more : List ℕ) × (text_for caps (ts ++ t ∷ later) v ≡ text_for caps ts us ++ (part_of w ++ more))
+      up : (w : Share × List Share) → (IsShare caps w.0 × AreFor caps later w.1) → (v : List Share) × AreFor caps (ts ++ t ∷ later) v × (more : List ℕ) × (text_for caps (ts ++ t ∷ later) v ≡ text_for caps ts us ++ ((share_line caps t w.0 ++ text_for caps later w.1) ++ more))
       up w h = (
         us ++ w.0 ∷ w.1,
         for-more ts (t ∷ later) us (w.0 ∷ w.1) a h,
         [],
-        text-more ts (t ∷ later) us (w.0 ∷ w.1) a ∙ ap (λ z. text_for caps ts us ++ z) (sym (append-nil (part_of w))),
+        text-more ts (t ∷ later) us (w.0 ∷ w.1) a ∙ ap (λ z. text_for caps ts us ++ z) (sym (append-nil ((share_line caps t w.0 ++ text_for caps later w.1)))),
       )
 
-      down : (v : List Share) (x z : List ℕ) → AreFor caps (ts ++ t ∷ later) v → text_for caps (ts ++ t ∷ later) v ++ x ≡ text_for caps ts us ++ z → (w : Share × List Share) × IsPart w × (y : List ℕ) × (part_of w ++ y ≡ z)
+      down : (v : List Share) (x z : List ℕ) → AreFor caps (ts ++ t ∷ later) v → text_for caps (ts ++ t ∷ later) v ++ x ≡ text_for caps ts us ++ z → (w : Share × List Share) × (IsShare caps w.0 × AreFor caps later w.1) × (y : List ℕ) × ((share_line caps t w.0 ++ text_for caps later w.1) ++ y ≡ z)
       down v x z h f = by c.vs c.others whole
         where
           c : AreCut ts (t ∷ later) v
@@ -133,7 +133,7 @@ module _ (caps : List Cap) (named : AreNamed caps) where
           whole = ends-once ts before c.us us (text_for caps (t ∷ later) c.vs ++ x) z c.first a
               (sym (append_assoc (text_for caps ts c.us) (text_for caps (t ∷ later) c.vs) x) ∙ ap (λ q. q ++ x) (sym (ap (text_for caps (ts ++ t ∷ later)) c.whole ∙ text-more ts (t ∷ later) c.us c.vs c.first)) ∙ f)
 
-          by : (vs : List Share) → AreFor caps (t ∷ later) vs → text_for caps (t ∷ later) vs ++ x ≡ z → (w : Share × List Share) × IsPart w × (y : List ℕ) × (part_of w ++ y ≡ z)
+          by : (vs : List Share) → AreFor caps (t ∷ later) vs → text_for caps (t ∷ later) vs ++ x ≡ z → (w : Share × List Share) × (IsShare caps w.0 × AreFor caps later w.1) × (y : List ℕ) × ((share_line caps t w.0 ++ text_for caps later w.1) ++ y ≡ z)
           by [] o g = absurd o
           by (s ∷ ss) o g = ((s, ss), o, x, g)
 
@@ -149,3 +149,46 @@ module _ (caps : List Cap) (named : AreNamed caps) where
     e ∙ ap (λ z. text_for caps ts us ++ z) (f ∙ ap (λ z. z ++ others) (sym (append-nil (share_line caps t s)))) ∙ sym (append_assoc (text_for caps ts us) (share_line caps t s ++ []) others) ∙ ap (λ z. z ++ others) (sym (text-more ts (t ∷ []) us (s ∷ []) a)),
     for-more ts (t ∷ []) us (s ∷ []) a (is, tt),
   )
+
+  -- nothing is read yet
+  pub none-read : (ts : List Tenant) (us : List Share) (text : List ℕ) → us ≡ [] → (text ≡ text_for caps (take 0 ts) us ++ text) × AreFor caps (take 0 ts) us
+  none-read ts us text e = subst (λ (ss : List Share). (text ≡ text_for caps [] ss ++ text) × AreFor caps [] ss) (sym e) (refl, tt)
+
+  -- all is read
+  pub all-read : (ts : List Tenant) (us : List Share) (n : ℕ) (text rest : List ℕ) → length ts ≤ n → rest ≡ [] → text ≡ text_for caps (take n ts) us ++ rest → AreFor caps (take n ts) us → (text ≡ text_for caps ts us) × AreFor caps ts us
+  all-read ts us n text rest l e f a = (
+    f ∙ ap (λ z. text_for caps (take n ts) us ++ z) e ∙ append-nil (text_for caps (take n ts) us) ∙ ap (λ z. text_for caps z us) (take-past ts n l),
+    subst (λ (z : List Tenant). AreFor caps z us) (take-past ts n l) a,
+  )
+
+  pub wrong-past : (ts : List Tenant) (n : ℕ) (us : List Share) (text rest : List ℕ) → HaveNames ts → length ts ≤ n → AreFor caps (take n ts) us → text ≡ text_for caps (take n ts) us ++ rest → (rest ≡ [] → ⊥) → IsWrongAt ts text (length rest)
+  wrong-past ts n us text rest names l a f some =
+      wrong-end ts us text rest names (subst (λ (z : List Tenant). AreFor caps z us) (take-past ts n l) a) (f ∙ ap (λ z. text_for caps z us ++ rest) (take-past ts n l)) some
+
+  -- the tenants, cut at a place
+  pub cut-tenants : (ts : List Tenant) (n : ℕ) (t : Tenant) → n < length ts → t ≡ get_or ts n t → take n ts ++ t ∷ drop (suc n) ts ≡ ts
+  cut-tenants [] n t l e = let no : ⊥ = omega arith in absurd no
+  cut-tenants (u ∷ ts) zero t l e = ap (λ (z : Tenant). z ∷ ts) e
+  cut-tenants (u ∷ ts) (suc n) t l e = ap (λ z. u ∷ z) (cut-tenants ts n t (omega arith) e)
+
+  names-at : (ts : List Tenant) (n : ℕ) (t : Tenant) → HaveNames ts → n < length ts → t ≡ get_or ts n t → HaveNames (take n ts) × IsName t.name
+  names-at [] n t names l e = let no : ⊥ = omega arith in absurd no
+  names-at (u ∷ ts) zero t names l e = (tt, subst (λ (z : Tenant). IsName z.name) (sym e) names.0)
+  names-at (u ∷ ts) (suc n) t names l e = let h = names-at ts n t names.1 (omega arith) e in ((names.0, h.0), h.1)
+
+  pub wrong-at : (ts : List Tenant) (n : ℕ) (t : Tenant) (us : List Share) (text rest : List ℕ) → HaveNames ts → n < length ts → t ≡ get_or ts n t → AreFor caps (take n ts) us → text ≡ text_for caps (take n ts) us ++ rest → IsNoShare caps t rest → IsWrongAt ts text (length rest)
+  wrong-at ts n t us text rest names l e a f none =
+      let h = names-at ts n t names l e in
+      let whole = cut-tenants ts n t l e in
+      subst (λ (z : List Tenant). IsWrongAt z text (length rest)) whole (wrong-line (take n ts) (drop (suc n) ts) t us text rest (subst HaveNames (sym whole) names) h.0 h.1 a f none)
+
+  pub pushed-at : (ts : List Tenant) (n : ℕ) (t : Tenant) (us after : List Share) (s : Share) (text rest others : List ℕ) → n < length ts → t ≡ get_or ts n t → AreFor caps (take n ts) us → IsShare caps s → text ≡ text_for caps (take n ts) us ++ rest →
+      rest ≡ share_line caps t s ++ others → after ≡ us ++ s ∷ [] → (text ≡ text_for caps (take (n + 1) ts) after ++ others) × AreFor caps (take (n + 1) ts) after
+  pushed-at ts n t us after s text rest others l e a is f g pushed' =
+      subst (λ (zs : List Share). (text ≡ text_for caps (take (n + 1) ts) zs ++ others) × AreFor caps (take (n + 1) ts) zs) (sym pushed')
+      (subst (λ (z : List Tenant). (text ≡ text_for caps z (us ++ s ∷ []) ++ others) × AreFor caps z (us ++ s ∷ [])) (sym (take-next ts n t l e)) (pushed (take n ts) t us s text rest others a is f g))
+    where
+      take-next : (zs : List Tenant) (k : ℕ) (z : Tenant) → k < length zs → z ≡ get_or zs k z → take (k + 1) zs ≡ take k zs ++ z ∷ []
+      take-next [] k z l e = let no : ⊥ = omega arith in absurd no
+      take-next (u ∷ zs) zero z l e = ap (λ (x : Tenant). x ∷ []) (sym e)
+      take-next (u ∷ zs) (suc k) z l e = let one : suc k + 1 ≡ suc (k + 1) = omega arith in ap (λ m. take m (u ∷ zs)) one ∙ ap (λ q. u ∷ q) (take-next zs k z (omega arith) e)

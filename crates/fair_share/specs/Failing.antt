@@ -3,7 +3,7 @@ use Rattle.std.specs.Prelude.{◌≡◌, ℕ, ◌≤◌, ⊤, List, Vec, map}
 use Rattle.std.specs.List.{AllByRecursion}
 use Rattle.std.specs.declared.alloc.Global.{Global}
 use Rattle.merlin_base.specs.Lexemes.{IsName}
-use Rattle.fair_share.specs.declared.limits.TheConstants.{MAX_RATE}
+use Rattle.merlin_model.specs.declared.limits.TheConstants.{MAX_RATE}
 use Rattle.fair_share.specs.declared.entry.Entry.{Entry}
 use Rattle.fair_share.specs.declared.entry.Entries.{Entries}
 use Rattle.fair_share.specs.declared.fault.DemandFault.{DemandFault}

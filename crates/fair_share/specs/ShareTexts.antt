@@ -6,7 +6,7 @@ use Rattle.std.specs.Fmt.{decimal}
 use Rattle.merlin_base.specs.Texts.{joined}
 use Rattle.merlin_base.specs.Lexemes.{IsName}
 use Rattle.merlin_base.specs.Faults.{IsFirstWrongLine}
-use Rattle.fair_share.specs.declared.limits.TheConstants.{MAX_RATE}
+use Rattle.merlin_model.specs.declared.limits.TheConstants.{MAX_RATE}
 use Rattle.fair_share.specs.declared.cap.Cap.{Cap}
 use Rattle.fair_share.specs.declared.cap.Tenant.{Tenant}
 use Rattle.fair_share.specs.declared.share.Share.{Share}

@@ -5,7 +5,8 @@ use Rattle.std.specs.List.{All, AllByRecursion, AllZip, zip}
 use Rattle.std.specs.List.Sorted.{IsPermutation, IsNonDecreasing}
 use Rattle.merlin_base.specs.Lexemes.{IsName}
 use Rattle.merlin_model.specs.Networks.{AreDifferent}
-use Rattle.fair_share.specs.declared.limits.TheConstants.{MAX_CAPS, MAX_TENANTS, MAX_RATE}
+use Rattle.merlin_model.specs.declared.limits.TheConstants.{MAX_RATE}
+use Rattle.fair_share.specs.declared.limits.TheConstants.{MAX_CAPS, MAX_TENANTS}
 use Rattle.fair_share.specs.declared.cap.Cap.{Cap}
 use Rattle.fair_share.specs.declared.cap.Tenant.{Tenant}
 use Rattle.fair_share.specs.declared.share.Share.{Share}

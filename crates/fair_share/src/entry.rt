@@ -66,7 +66,11 @@ fn name_of(value: &Value) -> Option<&str>
     ensures none { IfNone result ((name : List ℕ) → ¬ HasName (view value.now) name) }
 {
     let text = text_under(value, "name")?;
-    if is_name(text.as_bytes()) { Some(text) } else { None }
+    if is_name(text.as_bytes()) {
+        Some(text)
+    } else {
+        None
+    }
 }
 
 fn rate_of(value: &Value, key: &str) -> Option<u64>
@@ -152,13 +156,7 @@ fn words_for(
 }
 
 // The fault of a part of an element of an array.
-fn element_fault(
-    alloc: Global,
-    key: &str,
-    rate_key: &str,
-    place: usize,
-    part: Part,
-) -> DemandFault
+fn element_fault(alloc: Global, key: &str, rate_key: &str, place: usize, part: Part) -> DemandFault
     ensures { FailsAs (λ words. words ≡ element_words key.now rate_key.now place part) result }
 {
     match words_for(alloc, key, rate_key, place, part) {
@@ -185,12 +183,14 @@ fn entries_under(
     ensures ok { IfOk result (λ entries. HasEntries key.now rate_key.now (view value.now) entries.items) }
     ensures err { IfErr result (FailsAs (IsWrongArray key.now rate_key.now (view value.now))) }
 {
-    let Some(items) = items_under(value, key) else {
+    let Some(array) = items_under(value, key) else {
         return Err(shape_fault(alloc, key));
     };
+    let items = array.as_slice();
     let mut entries = Vec::new(alloc);
     for place in 0..items.len() {
-        match entry_of(alloc, &items[place], rate_key) {
+        let item = &items[place];
+        match entry_of(alloc, item, rate_key) {
             Ok(entry) => entries.push(entry)?,
             Err(PartFault::Wrong(part)) => {
                 return Err(element_fault(alloc, key, rate_key, place, part));

@@ -24,9 +24,12 @@ fn is_right(caps: &[Cap], tenant: &Tenant, share: Share, used: &[u128], tops: &[
 {
     match share.cap {
         None => share.rate == tenant.demand,
-        Some(cap) => {
-            is_under(caps, tenant.under, cap)
-                && is_bound(used[cap], caps[cap].rate, tops[cap], share.rate)
+        Some(place) => {
+            if !is_under(caps, tenant.under, place) {
+                return false;
+            }
+            let cap = &caps[place];
+            is_bound(used[place], cap.rate, tops[place], share.rate)
         }
     }
 }

@@ -1,5 +1,5 @@
 //! The names of caps and tenants: that no two are alike, and which cap one is.
-ghost use Rattle.std.specs.Prelude.{◌≡◌, ◌++◌, ℕ, List, None, Some, map, OnOk, IfOk, IfErr, IfSome, IfNone, slice_get};
+ghost use Rattle.std.specs.Prelude.{◌≡◌, ◌++◌, ◌↔◌, IsTrue, ℕ, List, None, Some, map, OnOk, IfOk, IfErr, IfSome, IfNone, slice_get};
 ghost use Rattle.merlin_model.specs.Networks.{AreDifferent};
 ghost use Rattle.fair_share.specs.Reading.{names_in, all_names, IsFirstRepeated};
 ghost use Rattle.fair_share.specs.Failing.{texts_of_keys, FailsAsRepeated};
@@ -26,8 +26,8 @@ fn add_names(
     for entry in entries {
         let name = Vec::from_slice(alloc, entry.name.bytes())?;
         if !numbers.insert(name)? {
-            let name = entry.name.copy(alloc)?;
-            return Err(DemandFault::DuplicateName { name });
+            let repeated = entry.name.copy(alloc)?;
+            return Err(DemandFault::DuplicateName { name: repeated });
         }
     }
     Ok(())
@@ -43,6 +43,12 @@ pub(crate) fn ask_names(alloc: Global, entries: &Entries) -> Result<(), DemandFa
     add_names(alloc, &entries.tenants, &mut numbers)
 }
 
+fn has_name(cap: &Cap, name: &[u8]) -> bool
+    ensures { IsTrue result ↔ (cap.now.name ≡ name.now) }
+{
+    cap.name.bytes() == name
+}
+
 // The place of the cap of this name.
 pub(crate) fn cap_named(caps: &[Cap], name: &[u8]) -> Option<usize>
     ensures some { IfSome result (λ c. slice_get (map (λ cap. cap.name) caps.now) c ≡ Some name.now) }
@@ -50,7 +56,7 @@ pub(crate) fn cap_named(caps: &[Cap], name: &[u8]) -> Option<usize>
 {
     for index in 0..caps.len() {
         let cap = &caps[index];
-        if cap.name.bytes() == name {
+        if has_name(cap, name) {
             return Some(index);
         }
     }

@@ -59,11 +59,7 @@ fn ask_counts(alloc: Global, entries: &Entries) -> Result<(), DemandFault>
 }
 
 // The place of the cap that something is under, by its name.
-fn place_of(
-    alloc: Global,
-    caps: &[Cap],
-    under: &Option<Name>,
-) -> Result<Option<usize>, DemandFault>
+fn place_of(alloc: Global, caps: &[Cap], under: &Option<Name>) -> Result<Option<usize>, DemandFault>
     ensures ok { IfOk result (IsPlaceOf (map (λ cap. cap.name) caps.now) under.now) }
     ensures err { IfErr result (FailsAsUnknown (λ name. (under.now ≡ Some name)
         × ((place : Option ℕ) → ¬ IsPlaceOf (map (λ cap. cap.name) caps.now) under.now place))) }
@@ -97,11 +93,7 @@ fn caps_of(alloc: Global, entries: &[Entry]) -> Result<Vec<Cap>, DemandFault>
 }
 
 // The tenants, each under one of the caps.
-fn tenants_of(
-    alloc: Global,
-    caps: &[Cap],
-    entries: &[Entry],
-) -> Result<Vec<Tenant>, DemandFault>
+fn tenants_of(alloc: Global, caps: &[Cap], entries: &[Entry]) -> Result<Vec<Tenant>, DemandFault>
     ensures ok { IfOk result (λ tenants.
         AreTenantsOf (map (λ cap. cap.name) caps.now) entries.now tenants.items) }
     ensures err { IfErr result (FailsAsUnknown

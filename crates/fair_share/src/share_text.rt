@@ -3,17 +3,17 @@ ghost use Rattle.std.specs.Prelude.{◌≡◌, ◌++◌, ◌∷◌, [], ◌<◌,
 ghost use Rattle.std.specs.Fmt.{decimal};
 ghost use Rattle.fair_share.specs.declared.share.Share.{Share};
 ghost use Rattle.fair_share.specs.declared.cap.Tenant.{Tenant};
-ghost use Rattle.fair_share.specs.declared.limits.TheConstants.{MAX_RATE};
+ghost use Rattle.merlin_model.specs.declared.limits.TheConstants.{MAX_RATE};
 ghost use Rattle.fair_share.specs.declared.share_text.SharesFault.TheVariants as fault;
 ghost use Rattle.fair_share.specs.Filling.{demands};
 ghost use Rattle.fair_share.specs.ShareTexts.{AreNamed, HaveNames, AreShares, bound_text, share_lines, share_words, share_line, IsShare, IsSharesText, IsSharesFault};
 
 use crate::cap::{Cap, Tenant};
 use crate::demands::Demands;
-use crate::limits::MAX_RATE;
 use crate::names::cap_named;
 use crate::share::Share;
-use merlin_base::{Name, OutOfMemory, after, name_from, read_number, split_at_byte};
+use merlin_base::{Name, OutOfMemory, name_from, read_number, split_at_byte, strip_front};
+use merlin_model::limits::MAX_RATE;
 use std::alloc::{AllocError, AllocFailed, Global};
 
 /// Why a text is no division: the start of the first line that is wrong or unfinished, or the length where lines are missing.
@@ -58,10 +58,10 @@ fn read_bound<'t>(caps: &[Cap], text: &'t [u8]) -> Option<(Option<usize>, &'t [u
         MatchOption cap ⊤ (λ c. c < length caps.now) →
         ¬ (text.now ≡ (bound_text caps.now cap ++ 10 ∷ []) ++ rest)) }
 {
-    if let Some(rest) = after(text, b"demand\n") {
+    if let Some(rest) = strip_front(text, b"demand\n") {
         return Some((None, rest));
     }
-    let named = after(text, b"cap ")?;
+    let named = strip_front(text, b"cap ")?;
     let (name, rest) = split_at_byte(named, b'\n')?;
     let cap = cap_named(caps, name)?;
     Some((Some(cap), rest))
@@ -75,12 +75,12 @@ fn read_share<'t>(caps: &[Cap], tenant: &Tenant, text: &'t [u8]) -> Option<(Shar
     ensures none { IfNone result ((share : Share) (rest : List ℕ) → IsShare caps.now share →
         ¬ (text.now ≡ share_line caps.now tenant.now share ++ rest)) }
 {
-    let named = after(text, b"share ")?;
-    let behind = after(named, tenant.name.bytes())?;
-    let number = after(behind, b" ")?;
+    let named = strip_front(text, b"share ")?;
+    let behind = strip_front(named, tenant.name.bytes())?;
+    let number = strip_front(behind, b" ")?;
     let (digits, unit) = split_at_byte(number, b'k')?;
     let rate = rate_of(digits)?;
-    let bound = after(unit, b"bps ")?;
+    let bound = strip_front(unit, b"bps ")?;
     let (cap, rest) = read_bound(caps, bound)?;
     Some((Share { rate, cap }, rest))
 }

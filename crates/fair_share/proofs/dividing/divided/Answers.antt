@@ -36,11 +36,14 @@ loop-index-preserved c =
     let within : c.loop-index.index < length (rates_of c.as_slice-shares.result.now) = (let r = rates-long c.as_slice-shares.result.now in omega arith) in
     let at = rate-at c.as_slice-shares.result.now c.loop-index.index inside in
     let stands = slice_get-at c.args.tenants.now c.loop-index.index c.index-tenants-index.result lt c.index-tenants-index.is in
-    let used : c.deref-in-loop-index.result.now ≡ c.in_ok-given.given.used.items = c.deref-in-loop-index.ensures.value in
-    let seen : c.deref-in-loop-index-2.result.now ≡ c.in_ok-tops.tops.items = c.deref-in-loop-index-2.ensures.value in
-    let are : AreUsed (demands c.args.caps.now c.args.tenants.now) (rates_of c.as_slice-shares.result.now) c.deref-in-loop-index.result.now =
-    subst (λ ss. AreUsed (demands c.args.caps.now c.args.tenants.now) (rates_of ss) c.deref-in-loop-index.result.now) (sym same) (subst (AreUsed (demands c.args.caps.now c.args.tenants.now) (rates_of c.in_ok-given.given.shares.items)) (sym used) c.in_ok-given.ensures.used) in
-    let top : AreTops (demands c.args.caps.now c.args.tenants.now) (rates_of c.as_slice-shares.result.now) c.deref-in-loop-index-2.result.now = subst (AreTops (demands c.args.caps.now c.args.tenants.now) (rates_of c.as_slice-shares.result.now)) (sym seen) ? in
+    let used : c.deref.result.now ≡ c.in_ok-given.given.used.items = c.deref.ensures.value in
+    let seen = c.deref-in-loop-index.ensures.value in
+    let zeros : c.in_ok-tops.tops.items ≡ replicate (length c.args.caps.now) zero = c.in_ok-tops.ensures.items_if_clones_equal (λ y e. e) in
+    let size = c.in_ok-tops.tops.ok.0 ∙ ap (λ l. length l) zeros ∙ length-replicate (length c.args.caps.now) zero ∙ sym c.top_all.ensures.as_many in
+    let whole = seen ∙ seam c.in_ok-tops.tops.len c.top_all.new.tops c.in_ok-tops.tops.items size in
+    let are : AreUsed (demands c.args.caps.now c.args.tenants.now) (rates_of c.as_slice-shares.result.now) c.deref.result.now =
+    subst (λ ss. AreUsed (demands c.args.caps.now c.args.tenants.now) (rates_of ss) c.deref.result.now) (sym same) (subst (AreUsed (demands c.args.caps.now c.args.tenants.now) (rates_of c.in_ok-given.given.shares.items)) (sym used) c.in_ok-given.ensures.used) in
+    let top : AreTops (demands c.args.caps.now c.args.tenants.now) (rates_of c.as_slice-shares.result.now) c.deref-in-loop-index.result.now = subst (AreTops (demands c.args.caps.now c.args.tenants.now) (rates_of c.as_slice-shares.result.now)) (sym whole) c.top_all.ensures in
     let settled : IsSettled (demands c.args.caps.now c.args.tenants.now) (rates_of c.as_slice-shares.result.now) c.index-tenants-index.result (slice_index (rates_of c.as_slice-shares.result.now) c.loop-index.index) =
     subst (λ ss. IsSettled (demands c.args.caps.now c.args.tenants.now) (rates_of ss) c.index-tenants-index.result (slice_index (rates_of ss) c.loop-index.index)) (sym same) (c.in_ok-given.ensures.settled c.loop-index.index c.index-tenants-index.result stands) in
     let line : IsNamed (demands c.args.caps.now c.args.tenants.now) (rates_of c.as_slice-shares.result.now) c.index-tenants-index.result c.line_of-line.result =

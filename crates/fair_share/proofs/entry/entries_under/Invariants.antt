@@ -5,4 +5,4 @@ use Rattle.fair_share.specs.Format.{IsEntryOf}
 use Rattle.fair_share.proofs.entry.entries_under.Given as goal
 
 abbrev pub invariant-loop-place : goal.invariant-loop-place
-invariant-loop-place l = AllZip (IsEntryOf l.rate_key) (take l.place (map view l.items.items)) l.entries.items
+invariant-loop-place l = AllZip (IsEntryOf l.rate_key) (take l.place (map view l.items)) l.entries.items

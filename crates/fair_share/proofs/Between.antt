@@ -6,8 +6,8 @@ use Rattle.std.proofs.lemmas.List.Elements.{All-from_recursion}
 use Rattle.std.proofs.lemmas.Option.{slice_get_within}
 use Rattle.std.proofs.lemmas.Bool.{cases_eq}
 use Rattle.fair_share.specs.declared.cap.Tenant.{Tenant}
-use Rattle.fair_share.specs.Shares.{given_to, Demands, is_met, is_beneath, shares_beneath, IsFeasible, IsBoundBy}
-use Rattle.fair_share.specs.Filling.{HasRoom, IsBlocked, IsSettled, IsFilled, IsEither, IsRaised, IsBetween, share_at}
+use Rattle.fair_share.specs.Shares.{given_to, Demands, is_on_way, is_beneath, shares_beneath, IsFeasible, IsBoundBy}
+use Rattle.fair_share.specs.Filling.{HaveRoomAbove, IsBlocked, IsSettled, IsFilled, IsEither, IsRaised, IsBetweenLevels, share_at}
 use Rattle.fair_share.proofs.Rising.{set-adds, one-more}
 use Rattle.fair_share.proofs.Filling.{index-settled, shares-long, some-at}
 
@@ -17,7 +17,7 @@ same-tenant {a} e f = ap (λ o. unwrap_or o a) (sym e ∙ f)
 true-false : true ≡ false → ⊥
 true-false e = cc
 
-pub between-starts : (d : Demands) (xs : List ℕ) (rising : List Bool) (used : List ℕ) (level : ℕ) → IsFilled d xs rising used level → IsBetween d xs rising used level 0
+pub between-starts : (d : Demands) (xs : List ℕ) (rising : List Bool) (used : List ℕ) (level : ℕ) → IsFilled d xs rising used level → IsBetweenLevels d xs rising used level 0
 between-starts d xs rising used level f = record {
   feasible = f.feasible;
   taken = f.taken;
@@ -30,7 +30,7 @@ between-starts d xs rising used level f = record {
 
 -- some of those that rise are taken on by 1
 pub between-raised : (d : Demands) (xs ys : List ℕ) (rising easy : List Bool) (used used' : List ℕ) (level : ℕ) → IsFilled d xs rising used level → IsRaised d xs easy (level + 1) ys used' →
-    ((i : ℕ) → get_or easy i false ≡ true → get_or rising i false ≡ true) → IsBetween d ys rising used' level 0
+    ((i : ℕ) → get_or easy i false ≡ true → get_or rising i false ≡ true) → IsBetweenLevels d ys rising used' level 0
 between-raised d xs ys rising easy used used' level f r only = record {
   feasible = r.feasible;
   taken = r.taken;
@@ -72,7 +72,7 @@ between-raised d xs ys rising easy used used' level f r only = record {
     by_left i t e rises true g = inr (taken i t e g)
     by_left i t e rises false g = inl (kept i t e g ∙ f.risen i t e rises)
 
-pub between-ends : (d : Demands) (xs : List ℕ) (rising : List Bool) (used : List ℕ) (level n : ℕ) → length d.tenants ≤ n → IsBetween d xs rising used level n → IsFilled d xs rising used (level + 1)
+pub between-ends : (d : Demands) (xs : List ℕ) (rising : List Bool) (used : List ℕ) (level n : ℕ) → length d.tenants ≤ n → IsBetweenLevels d xs rising used level n → IsFilled d xs rising used (level + 1)
 between-ends d xs rising used level n h b = record {
   feasible = b.feasible;
   taken = b.taken;
@@ -82,7 +82,7 @@ between-ends d xs rising used level n h b = record {
   risen = λ i t e r. b.gone i t (let l = slice_get_within d.tenants i t e in omega arith) e r;
 }
 
-module _ (d : Demands) (xs : List ℕ) (rising : List Bool) (used : List ℕ) (level n : ℕ) (t : Tenant) (stands : slice_get d.tenants n ≡ Some t) (b : IsBetween d xs rising used level n) where
+module _ (d : Demands) (xs : List ℕ) (rising : List Bool) (used : List ℕ) (level n : ℕ) (t : Tenant) (stands : slice_get d.tenants n ≡ Some t) (b : IsBetweenLevels d xs rising used level n) where
   before : (i : ℕ) → i < n + 1 → (i ≡ n) ⊎ (i < n)
   before i l = by (cases_eq i n)
     where
@@ -91,7 +91,7 @@ module _ (d : Demands) (xs : List ℕ) (rising : List Bool) (used : List ℕ) (l
       by (inr ne) = inr (grind arith)
 
   -- it doesn't rise, or has gone on, or has all that it asks for
-  pub between-keeps : (get_or rising n false ≡ false) ⊎ ((level < get_or xs n 0) ⊎ (t.demand ≤ get_or xs n 0)) → IsBetween d xs rising used level (n + 1)
+  pub between-keeps : (get_or rising n false ≡ false) ⊎ ((level < get_or xs n 0) ⊎ (t.demand ≤ get_or xs n 0)) → IsBetweenLevels d xs rising used level (n + 1)
   between-keeps why = record {
     feasible = b.feasible;
     taken = b.taken;
@@ -133,8 +133,8 @@ module _ (d : Demands) (xs : List ℕ) (rising : List Bool) (used : List ℕ) (l
       by (inr e) = omega arith
 
   -- one more
-  pub between-raises : (used' : List ℕ) → get_or rising n false ≡ true → get_or xs n 0 ≤ level → get_or xs n 0 < t.demand → HasRoom d.caps t.under used 1 → length used' ≡ length d.caps →
-      ((c : ℕ) → c < length d.caps → get_or used' c 0 ≡ get_or used c 0 + cond (is_met d.caps (length d.caps) t.under c) 1 0) → IsBetween d (set xs n (get_or xs n 0 + 1)) rising used' level (n + 1)
+  pub between-raises : (used' : List ℕ) → get_or rising n false ≡ true → get_or xs n 0 ≤ level → get_or xs n 0 < t.demand → HaveRoomAbove d.caps t.under used 1 → length used' ≡ length d.caps →
+      ((c : ℕ) → c < length d.caps → get_or used' c 0 ≡ get_or used c 0 + cond (is_on_way d.caps (length d.caps) t.under c) 1 0) → IsBetweenLevels d (set xs n (get_or xs n 0 + 1)) rising used' level (n + 1)
   between-raises used' rises low lt room as_many more = record {
     feasible = feasible;
     taken = record { as_many = as_many; each = λ c l. let a = more c l in let u = b.taken.each c l in let s = set-adds (is_beneath d c) d.tenants xs n 1 t long stands in omega arith };
@@ -189,7 +189,7 @@ module _ (d : Demands) (xs : List ℕ) (rising : List Bool) (used : List ℕ) (l
           omega arith
 
   -- settled by a cap that is full
-  pub between-settles : get_or rising n false ≡ true → get_or xs n 0 ≤ level → get_or xs n 0 < t.demand → IsBlocked d.caps t.under used 1 → IsBetween d xs (set rising n false) used level (n + 1)
+  pub between-settles : get_or rising n false ≡ true → get_or xs n 0 ≤ level → get_or xs n 0 < t.demand → IsBlocked d.caps t.under used 1 → IsBetweenLevels d xs (set rising n false) used level (n + 1)
   between-settles rises low lt blocked = record {
     feasible = b.feasible;
     taken = b.taken;

@@ -3,12 +3,12 @@ use Rattle.std.proofs.Common.{◌≡◌, ℕ, zero, suc, ◌+◌, ◌≤◌, ◌
 use Rattle.std.proofs.Math.Seq.{take-append_seam}
 use Rattle.std.specs.List.{AllZip}
 use Rattle.std.proofs.lemmas.Option.{slice_get_within, slice_get_read}
-use Rattle.std.proofs.lemmas.List.{take_more, length-append}
+use Rattle.std.proofs.lemmas.List.{length-append}
 use Rattle.std.proofs.lemmas.Bool.{cases_eq}
 use Rattle.fair_share.specs.declared.cap.Cap.{Cap}
 use Rattle.fair_share.specs.declared.cap.Tenant.{Tenant}
-use Rattle.fair_share.specs.Shares.{given_to, HavePlaces, Demands, is_met, is_beneath, shares_beneath, IsFeasible}
-use Rattle.fair_share.specs.Filling.{demands, AreUsed, HasRoom, IsSettled, IsFilled, share_at, IsPlace}
+use Rattle.fair_share.specs.Shares.{given_to, HavePlaces, Demands, is_beneath, shares_beneath, IsFeasible}
+use Rattle.fair_share.specs.Filling.{demands, AreUsed, IsSettled, IsFilled, share_at, IsCapPlace}
 use Rattle.fair_share.proofs.Rising.{sum-step, keeps-bound}
 use Rattle.fair_share.proofs.Levels.{as_many}
 
@@ -76,10 +76,10 @@ level-demands d xs ys rising level f long each = all-within d.tenants ys long (�
     all-within (t ∷ ts) [] l h = let no : ⊥ = omega arith in absurd no
     all-within (t ∷ ts) (z ∷ zs) l h = (h 0 t refl, all-within ts zs (omega arith) (λ i u e. h (suc i) u e))
 
-pub place-of : (caps : List Cap) (tenants : List Tenant) (i : ℕ) (t : Tenant) → HavePlaces caps tenants → i < length tenants → t ≡ get_or tenants i t → IsPlace caps t.under
+pub place-of : (caps : List Cap) (tenants : List Tenant) (i : ℕ) (t : Tenant) → HavePlaces caps tenants → i < length tenants → t ≡ get_or tenants i t → IsCapPlace caps t.under
 place-of caps tenants i t places l e = by t.under refl
   where
-    by : (o : Option ℕ) → t.under ≡ o → IsPlace caps o
+    by : (o : Option ℕ) → t.under ≡ o → IsCapPlace caps o
     by None f = tt
     by (Some u) f = places i u t (slice_get-at tenants i t l e) f
 

@@ -13,7 +13,7 @@ pub mod Rates
 pub mod Judging
 pub mod ShareLines
 pub mod WholeShares
-pub mod Entries
+pub mod NamedRates
 pub mod Numbering
 pub mod Repeated
 pub mod OneDivision

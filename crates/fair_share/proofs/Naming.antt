@@ -7,7 +7,7 @@ use Rattle.std.proofs.lemmas.Option.{slice_get_within}
 use Rattle.fair_share.specs.declared.cap.Cap.{Cap}
 use Rattle.fair_share.specs.declared.cap.Tenant.{Tenant}
 use Rattle.fair_share.specs.declared.share.Share.{Share}
-use Rattle.fair_share.specs.Shares.{given_to, Demands, is_met, is_beneath, shares_beneath, IsBoundBy, IsRight, rates_of}
+use Rattle.fair_share.specs.Shares.{given_to, Demands, is_on_way, is_beneath, shares_beneath, IsBoundBy, IsRight, share_rates}
 use Rattle.fair_share.specs.Filling.{demands, AreUsed, AreTops, IsSettled, IsFullAt, IsInnermost, IsNamedBy, IsNamed}
 use Rattle.fair_share.proofs.Filling.{zero-at}
 
@@ -33,7 +33,7 @@ pub tops-none : (caps : List Cap) (tops : List ℕ) → tops ≡ replicate (leng
 tops-none caps tops e l = record { as_many = l; each = λ c m b. ((λ h. All-from_recursion (λ y. y ≤ m) [] tt), (λ h. let z : get_or tops c 0 ≡ 0 = ap (λ u. get_or u c 0) e ∙ zero-at (length caps) c in omega arith)) }
 
 pub tops-push : (caps : List Cap) (ts : List Tenant) (xs tops tops' : List ℕ) (t : Tenant) (x : ℕ) → length xs ≡ length ts → AreTops (demands caps ts) xs tops → length tops' ≡ length caps →
-    ((c m : ℕ) → c < length caps → (get_or tops' c 0 ≤ m) ↔ ((get_or tops c 0 ≤ m) × (is_met caps (length caps) t.under c ≡ true → x ≤ m))) → AreTops (demands caps (ts ++ t ∷ [])) (xs ++ x ∷ []) tops'
+    ((c m : ℕ) → c < length caps → (get_or tops' c 0 ≤ m) ↔ ((get_or tops c 0 ≤ m) × (is_on_way caps (length caps) t.under c ≡ true → x ≤ m))) → AreTops (demands caps (ts ++ t ∷ [])) (xs ++ x ∷ []) tops'
 tops-push caps ts xs tops tops' t x l was long more = record {
   as_many = long;
   each = λ c m b.
@@ -76,11 +76,11 @@ named-right d xs (t ∷ ts) (l ∷ lines) h = (by l.cap h.0, named-right d xs ts
 pub zip-take : {A B : Type 0} (R : A → B → Type 0) (xs : List A) (ys : List B) (n : ℕ) (a : A) (b : B) → AllZip R (take n xs) ys → n < length xs → a ≡ get_or xs n a → R a b → AllZip R (take (n + 1) xs) (ys ++ b ∷ [])
 zip-take R xs ys n a b h l e r = subst (λ zs. AllZip R zs (ys ++ b ∷ [])) (sym (take_more xs n a l ∙ ap (λ u. take n xs ++ u ∷ []) (sym e))) (zip-push R (take n xs) ys a b h r)
 
-pub rates-take : (lines : List Share) (xs : List ℕ) (n : ℕ) (line : Share) → rates_of lines ≡ take n xs → n < length xs → line.rate ≡ get_or xs n 0 → rates_of (lines ++ line ∷ []) ≡ take (n + 1) xs
+pub rates-take : (lines : List Share) (xs : List ℕ) (n : ℕ) (line : Share) → share_rates lines ≡ take n xs → n < length xs → line.rate ≡ get_or xs n 0 → share_rates (lines ++ line ∷ []) ≡ take (n + 1) xs
 rates-take lines xs n line e l r = map-append (λ s. s.rate) lines (line ∷ []) ∙ ap₂ (λ ys x. ys ++ x ∷ []) e r ∙ sym (take_more xs n 0 l)
 
 pub tops-take : (caps : List Cap) (ts : List Tenant) (xs tops tops' : List ℕ) (n : ℕ) (t : Tenant) → length xs ≡ length ts → n < length ts → t ≡ get_or ts n t → AreTops (demands caps (take n ts)) (take n xs) tops → length tops' ≡ length caps →
-    ((c m : ℕ) → c < length caps → (get_or tops' c 0 ≤ m) ↔ ((get_or tops c 0 ≤ m) × (is_met caps (length caps) t.under c ≡ true → get_or xs n 0 ≤ m))) → AreTops (demands caps (take (n + 1) ts)) (take (n + 1) xs) tops'
+    ((c m : ℕ) → c < length caps → (get_or tops' c 0 ≤ m) ↔ ((get_or tops c 0 ≤ m) × (is_on_way caps (length caps) t.under c ≡ true → get_or xs n 0 ≤ m))) → AreTops (demands caps (take (n + 1) ts)) (take (n + 1) xs) tops'
 tops-take caps ts xs tops tops' n t l lt e was long more =
     subst (λ us. AreTops (demands caps us) (take (n + 1) xs) tops') (sym (take_more ts n t lt ∙ ap (λ u. take n ts ++ u ∷ []) (sym e)))
     (subst (λ ys. AreTops (demands caps (take n ts ++ t ∷ [])) ys tops') (sym (take_more xs n 0 (omega arith)))
@@ -89,8 +89,8 @@ tops-take caps ts xs tops tops' n t l lt e was long more =
     length-take-both : (ys : List ℕ) (bs : List Tenant) (k : ℕ) → k ≤ length ys → k ≤ length bs → length (take k ys) ≡ length (take k bs)
     length-take-both ys bs k p q = let a = length-take k ys in let b = length-take k bs in omega arith
 
-pub none-named : (d : Demands) (xs : List ℕ) (ts : List Tenant) (lines : List Share) → lines ≡ [] → (rates_of lines ≡ take 0 xs) × AllZip (IsNamed d xs) (take 0 ts) lines
-none-named d xs ts lines e = (ap rates_of e, subst (AllZip (IsNamed d xs) []) (sym e) tt)
+pub none-named : (d : Demands) (xs : List ℕ) (ts : List Tenant) (lines : List Share) → lines ≡ [] → (share_rates lines ≡ take 0 xs) × AllZip (IsNamed d xs) (take 0 ts) lines
+none-named d xs ts lines e = (ap share_rates e, subst (AllZip (IsNamed d xs) []) (sym e) tt)
 
 take-whole : {X : Type 0} (xs : List X) (n : ℕ) → length xs ≤ n → take n xs ≡ xs
 take-whole [] zero l = refl
@@ -98,8 +98,8 @@ take-whole [] (suc n) l = refl
 take-whole (x ∷ xs) zero l = let no : ⊥ = omega arith in absurd no
 take-whole (x ∷ xs) (suc n) l = ap (λ ys. x ∷ ys) (take-whole xs n (omega arith))
 
-pub all-rates : (lines : List Share) (xs : List ℕ) (n : ℕ) → rates_of lines ≡ take n xs → length xs ≤ n → rates_of lines ≡ xs
+pub all-rates : (lines : List Share) (xs : List ℕ) (n : ℕ) → share_rates lines ≡ take n xs → length xs ≤ n → share_rates lines ≡ xs
 all-rates lines xs n e l = e ∙ take-whole xs n l
 
-pub all-named : (d : Demands) (xs : List ℕ) (lines : List Share) (n : ℕ) → rates_of lines ≡ xs → AllZip (IsNamed d xs) (take n d.tenants) lines → length d.tenants ≤ n → AllZip (IsNamed d (rates_of lines)) d.tenants lines
+pub all-named : (d : Demands) (xs : List ℕ) (lines : List Share) (n : ℕ) → share_rates lines ≡ xs → AllZip (IsNamed d xs) (take n d.tenants) lines → length d.tenants ≤ n → AllZip (IsNamed d (share_rates lines)) d.tenants lines
 all-named d xs lines n e h l = subst (λ ys. AllZip (IsNamed d ys) d.tenants lines) (sym e) (subst (λ ts. AllZip (IsNamed d xs) ts lines) (take-whole d.tenants n l) h)

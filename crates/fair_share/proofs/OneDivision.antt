@@ -1,5 +1,5 @@
 -- A text stands for one division, and a sound division has a text.
-use Rattle.std.proofs.Common.{◌≡◌, ◌≢◌, ℕ, zero, suc, ◌≤◌, ◌<◌, ◌^◌, List, [], ◌∷◌, ◌++◌, length, map, Option, None, Some, MatchOption, unwrap_or, slice_get, codes, refl, sym, ◌∙◌, ap, ap₂, subst, append_assoc, append-nil, arith, lit<}
+use Rattle.std.proofs.Common.{◌≡◌, ◌≢◌, ℕ, zero, suc, ◌≤◌, ◌<◌, ◌^◌, List, [], ◌∷◌, ◌++◌, length, map, Option, None, Some, MatchOption, unwrap_or, slice_get, codes, refl, sym, ◌∙◌, ap, ap₂, append_assoc, arith, lit<}
 use Rattle.std.specs.Bool.{⊤}
 use Rattle.std.specs.List.{AllByRecursion, AllZip}
 use Rattle.std.specs.Fmt.{decimal}
@@ -8,14 +8,14 @@ use Rattle.std.proofs.lemmas.Option.{slice_get_within}
 use Rattle.merlin_base.specs.Lexemes.{IsName}
 use Rattle.merlin_base.proofs.Cutting.{AreSame, cut_once}
 use Rattle.merlin_base.proofs.Decimals.{decimal_same}
-use Rattle.merlin_model.specs.Networks.{Pairwise, AreDifferent}
+use Rattle.merlin_model.specs.Networks.{AreDifferent}
 use Rattle.fair_share.specs.declared.cap.Cap.{Cap}
 use Rattle.fair_share.specs.declared.cap.Tenant.{Tenant}
 use Rattle.fair_share.specs.declared.share.Share.{Share}
-use Rattle.fair_share.specs.Shares.{Demands, IsDemands, IsRight, IsBoundBy, IsSound, rates_of}
-use Rattle.fair_share.specs.ShareTexts.{cap_name, bound_text, share_words, share_line, shares_text, AreNamed, HaveNames, IsShare, AreShares, IsSharesText}
+use Rattle.fair_share.specs.Shares.{Demands, IsDemands, IsRight, IsBoundBy, IsSound, share_rates}
+use Rattle.fair_share.specs.ShareTexts.{cap_name, cap_bound_text, share_words, share_line, AreNamed, HaveNames, IsShare, AreShares, IsSharesText}
 use Rattle.fair_share.proofs.ShareLines.{at-name, cap-name-free, digit-free, words-free, parts-of, behind-cap}
-use Rattle.fair_share.proofs.WholeShares.{text_for, AreFor, line-behind}
+use Rattle.fair_share.proofs.WholeShares.{text_for, AreFor}
 
 -- the names of demands, in two lists
 names-parts : (xs ys : List (List ℕ)) → AllByRecursion IsName (xs ++ ys) → AllByRecursion IsName xs × AllByRecursion IsName ys
@@ -61,7 +61,7 @@ small : {n : ℕ} → n ≤ 1000000000 → n < 10 ^ 19
 small {n} h = let t : 1000000000 < 10 ^ 19 = lit< tt in omega arith
 
 module _ (caps : List Cap) (named : AreNamed caps) (others : List (List ℕ)) (differ : AreDifferent (map (λ (c : Cap). c.name) caps ++ others)) where
-  bound-once : (a b : Option ℕ) (x y : List ℕ) → MatchOption a ⊤ (λ c. c < length caps) → MatchOption b ⊤ (λ c. c < length caps) → (bound_text caps a ++ 10 ∷ []) ++ x ≡ (bound_text caps b ++ 10 ∷ []) ++ y → a ≡ b
+  bound-once : (a b : Option ℕ) (x y : List ℕ) → MatchOption a ⊤ (λ c. c < length caps) → MatchOption b ⊤ (λ c. c < length caps) → (cap_bound_text caps a ++ 10 ∷ []) ++ x ≡ (cap_bound_text caps b ++ 10 ∷ []) ++ y → a ≡ b
   bound-once None None x y p q e = refl
   bound-once None (Some c) x y p q e = let no : ◌≡◌ {A = ℕ} 100 99 = ap (λ (z : List ℕ). unwrap_or (slice_get z 0) 0) e in let f : ⊥ = omega arith in absurd f
   bound-once (Some c) None x y p q e = let no : ◌≡◌ {A = ℕ} 99 100 = ap (λ (z : List ℕ). unwrap_or (slice_get z 0) 0) e in let f : ⊥ = omega arith in absurd f
@@ -75,7 +75,7 @@ module _ (caps : List Cap) (named : AreNamed caps) (others : List (List ℕ)) (d
       let a = append_cancel_left (codes "share ") _ _ (sym (parts-of caps t u x) ∙ e ∙ parts-of caps t v y) in
       let b = append_cancel_left t.name _ _ a in
       let c = append_cancel_left (codes " ") _ _ b in
-      let cut = cut_once 107 (decimal u.rate) (decimal v.rate) (codes "bps " ++ ((bound_text caps u.cap ++ 10 ∷ []) ++ x)) (codes "bps " ++ ((bound_text caps v.cap ++ 10 ∷ []) ++ y)) (digit-free u.rate p.rate) (digit-free v.rate q.rate) c in
+      let cut = cut_once 107 (decimal u.rate) (decimal v.rate) (codes "bps " ++ ((cap_bound_text caps u.cap ++ 10 ∷ []) ++ x)) (codes "bps " ++ ((cap_bound_text caps v.cap ++ 10 ∷ []) ++ y)) (digit-free u.rate p.rate) (digit-free v.rate q.rate) c in
       let rate : u.rate ≡ v.rate = decimal_same u.rate v.rate (small p.rate) (small q.rate) cut.front in
       let cap : u.cap ≡ v.cap = bound-once u.cap v.cap x y p.cap q.cap (append_cancel_left (codes "bps ") _ _ cut.rest) in
       λ i. record { rate = rate i; cap = cap i }
@@ -99,11 +99,11 @@ one-division d bytes us vs is p q = shares-once d.caps (are-named d is) (map (λ
 pub sound-shares : (d : Demands) (ss : List Share) → IsDemands d → IsSound d ss → AreShares d ss
 sound-shares d ss is sound = by d.tenants ss sound.right sound.feasible.demands is.demands
   where
-    cap-there : (t : Tenant) (s : Share) (o : Option ℕ) → MatchOption o (s.rate ≡ t.demand) (IsBoundBy d (rates_of ss) t s.rate) → MatchOption o ⊤ (λ c. c < length d.caps)
+    cap-there : (t : Tenant) (s : Share) (o : Option ℕ) → MatchOption o (s.rate ≡ t.demand) (IsBoundBy d (share_rates ss) t s.rate) → MatchOption o ⊤ (λ c. c < length d.caps)
     cap-there t s None h = tt
     cap-there t s (Some c) b = slice_get_within d.caps c b.cap b.stands
 
-    by : (ts : List Tenant) (us : List Share) → AllZip (IsRight d (rates_of ss)) ts us → AllZip (λ t x. x ≤ t.demand) ts (rates_of us) → AllByRecursion (λ (t : Tenant). t.demand ≤ 1000000000) ts → AllZip (λ t s. IsShare d.caps s) ts us
+    by : (ts : List Tenant) (us : List Share) → AllZip (IsRight d (share_rates ss)) ts us → AllZip (λ t x. x ≤ t.demand) ts (share_rates us) → AllByRecursion (λ (t : Tenant). t.demand ≤ 1000000000) ts → AllZip (λ t s. IsShare d.caps s) ts us
     by [] [] a b c = tt
     by [] (u ∷ us) a b c = absurd a
     by (t ∷ ts) [] a b c = absurd a

@@ -1,5 +1,5 @@
 -- What is given beneath each cap, from what is given directly under each: caps hand their sums up, the last cap first.
-use Rattle.std.proofs.Common.{◌≡◌, ℕ, zero, suc, ◌+◌, ◌*◌, ◌≤◌, ◌<◌, ◌⊎◌, inl, inr, ◌==◌, ◌≢◌, ◌||◌, Bool, true, false, cond, List, [], ◌∷◌, ◌++◌, length, sum, take, replicate, Option, None, Some, MatchOption, slice_get, get_or, set, ltb, refl, sym, ◌∙◌, ap, subst, arith}
+use Rattle.std.proofs.Common.{◌≡◌, ℕ, zero, suc, ◌+◌, ◌*◌, ◌≤◌, ◌<◌, ◌⊎◌, inl, inr, ◌==◌, ◌≢◌, ◌||◌, Bool, true, false, cond, List, [], ◌∷◌, length, sum, take, replicate, Option, None, Some, MatchOption, slice_get, get_or, set, ltb, refl, sym, ◌∙◌, ap, subst, arith}
 use Rattle.std.specs.Option.{option_map_or}
 use Rattle.std.proofs.lemmas.Bool.{cases_eq, eqb-true, eq-eqb, ne_eqb, lt-ltb, le-ltb, cases_lt}
 use Rattle.std.proofs.lemmas.Option.{slice_get_within}
@@ -9,7 +9,7 @@ use Rattle.std.proofs.lemmas.List.{length-set, get_or-set_same, get_or-set_other
 use Rattle.std.specs.Bool.{⊤}
 use Rattle.fair_share.specs.declared.cap.Cap.{Cap}
 use Rattle.fair_share.specs.declared.cap.Tenant.{Tenant}
-use Rattle.fair_share.specs.Shares.{IsForest, cap_above, is_met, given_to}
+use Rattle.fair_share.specs.Shares.{IsForest, cap_above, is_on_way, given_to}
 use Rattle.fair_share.specs.Filling.{demands, is_under, AreDirect, AreUsed}
 use Rattle.fair_share.proofs.Nesting.{met-bound}
 use Rattle.fair_share.proofs.Rising.{sum-step}
@@ -224,27 +224,27 @@ module _ (caps : List Cap) (forest : IsForest caps) where
       by (inr m) = ap (λ o. is_at o c) (first-on n k p m ∙ ap (first_before caps n k) (none-above p (omega arith)) ∙ none-first n k) ∙ sym (ne_eqb p c (λ e. let no : ⊥ = omega arith in no))
 
   -- and at last to each cap that it is beneath
-  first-last : (n : ℕ) (at : Option ℕ) (c : ℕ) → is_at (first_before caps n (suc c) at) c ≡ is_met caps n at c
+  first-last : (n : ℕ) (at : Option ℕ) (c : ℕ) → is_at (first_before caps n (suc c) at) c ≡ is_on_way caps n at c
   first-last zero at c = refl
   first-last (suc n) None c = refl
   first-last (suc n) (Some p) c = by (first-last n (cap_above caps p) c) (cases_lt p c)
     where
-      unmet : p < c → is_met caps n (cap_above caps p) c ≡ false
-      unmet l = at (is_met caps n (cap_above caps p) c) refl
+      unmet : p < c → is_on_way caps n (cap_above caps p) c ≡ false
+      unmet l = at (is_on_way caps n (cap_above caps p) c) refl
         where
-          at : (b : Bool) → is_met caps n (cap_above caps p) c ≡ b → b ≡ false
+          at : (b : Bool) → is_on_way caps n (cap_above caps p) c ≡ b → b ≡ false
           at false e = refl
           at true e = absurd (above (cap_above caps p) refl e)
             where
-              above : (o : Option ℕ) → cap_above caps p ≡ o → is_met caps n o c ≡ true → ⊥
+              above : (o : Option ℕ) → cap_above caps p ≡ o → is_on_way caps n o c ≡ true → ⊥
               above o e m = met-under o e (met-bound caps forest n o c m)
                 where
                   met-under : (o : Option ℕ) → cap_above caps p ≡ o → MatchOption o ⊥ (λ k. c ≤ k) → ⊥
                   met-under None e h = h
                   met-under (Some u) e h = let b = lower-above p u e in omega arith
 
-      by : is_at (first_before caps n (suc c) (cap_above caps p)) c ≡ is_met caps n (cap_above caps p) c → (p < c) ⊎ (c ≤ p) →
-          is_at (first_before caps (suc n) (suc c) (Some p)) c ≡ ((p == c) || is_met caps n (cap_above caps p) c)
+      by : is_at (first_before caps n (suc c) (cap_above caps p)) c ≡ is_on_way caps n (cap_above caps p) c → (p < c) ⊎ (c ≤ p) →
+          is_at (first_before caps (suc n) (suc c) (Some p)) c ≡ ((p == c) || is_on_way caps n (cap_above caps p) c)
       by rest (inl l) = ap (λ o. is_at o c) (first-here n (suc c) p (omega arith)) ∙ sym (ap (λ b. (p == c) || b) (unmet l) ∙ or-false (p == c))
         where
           or-false : (b : Bool) → (b || false) ≡ b
@@ -252,10 +252,10 @@ module _ (caps : List Cap) (forest : IsForest caps) where
           or-false false = refl
       by rest (inr g) = on (at_or_past p c g)
         where
-          on : (p ≡ c) ⊎ (c < p) → is_at (first_before caps (suc n) (suc c) (Some p)) c ≡ ((p == c) || is_met caps n (cap_above caps p) c)
-          on (inl e) = ap (λ o. is_at o c) (first-here n (suc c) p (omega arith)) ∙ (eq-eqb p c e ∙ sym (ap (λ b. b || is_met caps n (cap_above caps p) c) (eq-eqb p c e)))
+          on : (p ≡ c) ⊎ (c < p) → is_at (first_before caps (suc n) (suc c) (Some p)) c ≡ ((p == c) || is_on_way caps n (cap_above caps p) c)
+          on (inl e) = ap (λ o. is_at o c) (first-here n (suc c) p (omega arith)) ∙ (eq-eqb p c e ∙ sym (ap (λ b. b || is_on_way caps n (cap_above caps p) c) (eq-eqb p c e)))
           on (inr l) = ap (λ o. is_at o c) (first-on n (suc c) p (omega arith)) ∙ rest
-              ∙ sym (ap (λ b. b || is_met caps n (cap_above caps p) c) (ne_eqb p c (λ e. let no : ⊥ = omega arith in no)))
+              ∙ sym (ap (λ b. b || is_on_way caps n (cap_above caps p) c) (ne_eqb p c (λ e. let no : ⊥ = omega arith in no)))
 
   come-first : (c : ℕ) (tenant : Tenant) → c < length caps → is_under c tenant ≡ has_come caps (length caps) c tenant
   come-first c tenant l = sym (ap (λ j. is_at (first_before caps (length caps) j tenant.under) c) (ap (λ b. cond b (length caps) (suc c)) (lt-ltb c (length caps) l))
@@ -265,7 +265,7 @@ module _ (caps : List Cap) (forest : IsForest caps) where
   comes tenants shares sums direct = record { as_many = direct.as_many; each = λ c l. direct.each c l ∙ sum-same (is_under c) (has_come caps (length caps) c) tenants shares (λ t. come-first c t l) }
 
   pub come-last : (tenants : List Tenant) (shares sums : List ℕ) → HasCome caps tenants shares sums 0 → AreUsed (demands caps tenants) shares sums
-  come-last tenants shares sums h = record { as_many = h.as_many; each = λ c l. h.each c l ∙ sum-same (has_come caps 0 c) (λ t. is_met caps (length caps) t.under c) tenants shares (λ t. ap (λ j. is_at (first_before caps (length caps) j t.under) c) (ap (λ b. cond b 0 (suc c)) (le-ltb c 0 (omega arith))) ∙ first-last (length caps) t.under c) }
+  come-last tenants shares sums h = record { as_many = h.as_many; each = λ c l. h.each c l ∙ sum-same (has_come caps 0 c) (λ t. is_on_way caps (length caps) t.under c) tenants shares (λ t. ap (λ j. is_at (first_before caps (length caps) j t.under) c) (ap (λ b. cond b 0 (suc c)) (le-ltb c 0 (omega arith))) ∙ first-last (length caps) t.under c) }
 
   -- past the cap that hands its sum up nothing is new
   past-same : (k c : ℕ) (tenant : Tenant) → k ≤ c → has_come caps (suc k) c tenant ≡ has_come caps k c tenant

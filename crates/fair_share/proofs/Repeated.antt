@@ -1,17 +1,16 @@
 -- Names that are added one after another, and the first that stands twice.
-use Rattle.std.proofs.Common.{◌≡◌, ◌≢◌, ℕ, zero, suc, ◌+◌, ◌≤◌, ◌<◌, Bool, true, false, not, ◌||◌, List, [], ◌∷◌, ◌++◌, length, map, take, slice_get, get_or, cond, Option, None, Some, unwrap_or, nat_eq, refl, sym, ◌∙◌, ap, subst, arith}
+use Rattle.std.proofs.Common.{◌≡◌, ◌≢◌, ℕ, zero, suc, ◌+◌, ◌≤◌, ◌<◌, Bool, true, false, not, ◌||◌, List, [], ◌∷◌, ◌++◌, length, take, slice_get, get_or, cond, Some, unwrap_or, nat_eq, refl, sym, ◌∙◌, ap, subst, arith}
 use Rattle.std.specs.Prelude.{Vec}
 use Rattle.std.specs.declared.alloc.Global.{Global}
 use Rattle.std.specs.List.{AllByRecursion, IsDistinct, list_any}
 use Rattle.std.specs.Cmp.Lexicographic.{pointwise}
 use Rattle.std.proofs.lemmas.Slice.Eq.{bytes_eq-Decides}
-use Rattle.std.proofs.lemmas.Option.{slice_get_read}
-use Rattle.merlin_model.specs.Networks.{Pairwise, AreDifferent}
-use Rattle.fair_share.specs.declared.entry.Entry.{Entry}
-use Rattle.fair_share.specs.Reading.{names_in, IsFirstRepeated}
+use Rattle.merlin_model.specs.Networks.{AreDifferent}
+use Rattle.fair_share.specs.declared.entry.NamedRate.{NamedRate}
+use Rattle.fair_share.specs.Reading.{names_written, IsFirstRepeated}
 use Rattle.fair_share.specs.declared.fault.DemandFault.{DemandFault}
 use Rattle.fair_share.specs.declared.fault.DemandFault.TheVariants.{Json, Shape, TooLarge, DuplicateName, UnknownCap, OutOfMemory}
-use Rattle.fair_share.specs.Failing.{texts_of_keys, FailsAsRepeated}
+use Rattle.fair_share.specs.Failing.{key_texts, FailsAsRepeated}
 
 abbrev Text : Type 0
 Text = Vec ℕ Global
@@ -19,24 +18,24 @@ Text = Vec ℕ Global
 true-false : true ≡ false → ⊥
 true-false e = cc
 
-differ-all : (k : Text) (ks : List Text) → AllByRecursion (λ y. pointwise nat_eq k.items y.items ≡ false) ks → AllByRecursion (λ y. k.items ≢ y) (texts_of_keys ks)
+differ-all : (k : Text) (ks : List Text) → AllByRecursion (λ y. pointwise nat_eq k.items y.items ≡ false) ks → AllByRecursion (λ y. k.items ≢ y) (key_texts ks)
 differ-all k [] all = tt
 differ-all k (y ∷ ks) all = ((λ same. true-false (sym ((bytes_eq-Decides k.items y.items).1 same) ∙ all.0)), differ-all k ks all.1)
 
 -- the keys of a table differ
-pub keys-differ : (ks : List Text) → IsDistinct (λ (x y : Text). pointwise nat_eq x.items y.items) ks → AreDifferent (texts_of_keys ks)
+pub keys-differ : (ks : List Text) → IsDistinct (λ (x y : Text). pointwise nat_eq x.items y.items) ks → AreDifferent (key_texts ks)
 unfolding IsDistinct
 keys-differ [] d = tt
 keys-differ (k ∷ ks) d = (differ-all k ks d.0, keys-differ ks d.1)
 
 -- where a name is among the keys
-pub key-there : (name : List ℕ) (ks : List Text) → list_any (λ (k : Text). pointwise nat_eq name k.items) ks ≡ true → (j : ℕ) × (j < length (texts_of_keys ks)) × (slice_get (texts_of_keys ks) j ≡ Some name)
+pub key-there : (name : List ℕ) (ks : List Text) → list_any (λ (k : Text). pointwise nat_eq name k.items) ks ≡ true → (j : ℕ) × (j < length (key_texts ks)) × (slice_get (key_texts ks) j ≡ Some name)
 key-there name [] e = absurd (true-false (sym e))
 key-there name (k ∷ ks) e = by (pointwise nat_eq name k.items) refl e (λ f. key-there name ks f)
   where
     by : (b : Bool) → pointwise nat_eq name k.items ≡ b → (b || list_any (λ (k : Text). pointwise nat_eq name k.items) ks) ≡ true →
-        (list_any (λ (k : Text). pointwise nat_eq name k.items) ks ≡ true → (j : ℕ) × (j < length (texts_of_keys ks)) × (slice_get (texts_of_keys ks) j ≡ Some name)) →
-        (j : ℕ) × (j < suc (length (texts_of_keys ks))) × (slice_get (k.items ∷ texts_of_keys ks) j ≡ Some name)
+        (list_any (λ (k : Text). pointwise nat_eq name k.items) ks ≡ true → (j : ℕ) × (j < length (key_texts ks)) × (slice_get (key_texts ks) j ≡ Some name)) →
+        (j : ℕ) × (j < suc (length (key_texts ks))) × (slice_get (k.items ∷ key_texts ks) j ≡ Some name)
     by true same e later = (0, omega arith, ap Some (sym ((bytes_eq-Decides name k.items).0 same)))
     by false other e later = let h = later e in (suc h.0, (let l = h.1 in omega arith), h.2)
 
@@ -71,51 +70,51 @@ long-both : {X : Type 0} (xs ys : List X) → length (xs ++ ys) ≡ length xs + 
 long-both [] ys = omega arith
 long-both (x ∷ xs) ys = let h = long-both xs ys in omega arith
 
-name-at : (es : List Entry) (i : ℕ) (e : Entry) → i < length es → e ≡ get_or es i e → slice_get (names_in es) i ≡ Some e.name
+name-at : (es : List NamedRate) (i : ℕ) (e : NamedRate) → i < length es → e ≡ get_or es i e → slice_get (names_written es) i ≡ Some e.name
 name-at [] i e l is = let no : ⊥ = omega arith in absurd no
-name-at (x ∷ es) zero e l is = ap (λ (y : Entry). Some y.name) (sym is)
+name-at (x ∷ es) zero e l is = ap (λ (y : NamedRate). Some y.name) (sym is)
 name-at (x ∷ es) (suc i) e l is = name-at es i e (omega arith) is
 
-names-long : (es : List Entry) → length (names_in es) ≡ length es
+names-long : (es : List NamedRate) → length (names_written es) ≡ length es
 names-long [] = refl
 names-long (e ∷ es) = ap suc (names-long es)
 
 -- the names so far are keys
-pub record AreAdded (old : List (List ℕ)) (es : List Entry) (n : ℕ) (ks : List Text) : Type 0 where
-  pub same : texts_of_keys ks ≡ take (length old + n) (old ++ names_in es)
-  pub apart : AreDifferent (texts_of_keys ks)
+pub record AreAdded (old : List (List ℕ)) (es : List NamedRate) (n : ℕ) (ks : List Text) : Type 0 where
+  pub same : key_texts ks ≡ take (length old + n) (old ++ names_written es)
+  pub apart : AreDifferent (key_texts ks)
 
-pub added-none : (ks : List Text) (es : List Entry) → AreDifferent (texts_of_keys ks) → AreAdded (texts_of_keys ks) es 0 ks
-added-none ks es apart = record { same = sym (take-front (texts_of_keys ks) (names_in es)); apart = apart }
+pub added-none : (ks : List Text) (es : List NamedRate) → AreDifferent (key_texts ks) → AreAdded (key_texts ks) es 0 ks
+added-none ks es apart = record { same = sym (take-front (key_texts ks) (names_written es)); apart = apart }
 
-pub added-all : (old : List (List ℕ)) (es : List Entry) (n : ℕ) (ks : List Text) → AreAdded old es n ks → length es ≤ n → (texts_of_keys ks ≡ old ++ names_in es) × AreDifferent (texts_of_keys ks)
-added-all old es n ks a l = (a.same ∙ take-past (old ++ names_in es) (length old + n) (let b = long-both old (names_in es) in let c = names-long es in omega arith), a.apart)
+pub added-all : (old : List (List ℕ)) (es : List NamedRate) (n : ℕ) (ks : List Text) → AreAdded old es n ks → length es ≤ n → (key_texts ks ≡ old ++ names_written es) × AreDifferent (key_texts ks)
+added-all old es n ks a l = (a.same ∙ take-past (old ++ names_written es) (length old + n) (let b = long-both old (names_written es) in let c = names-long es in omega arith), a.apart)
 
-module _ (old : List (List ℕ)) (es : List Entry) (n : ℕ) (ks : List Text) (e : Entry) (v : Text) (a : AreAdded old es n ks) (l : n < length es) (is : e ≡ get_or es n e) (named : v.items ≡ e.name) where
-  at : slice_get (old ++ names_in es) (length old + n) ≡ Some e.name
-  at = get-behind old (names_in es) n ∙ name-at es n e l is
+module _ (old : List (List ℕ)) (es : List NamedRate) (n : ℕ) (ks : List Text) (e : NamedRate) (v : Text) (a : AreAdded old es n ks) (l : n < length es) (is : e ≡ get_or es n e) (named : v.items ≡ e.name) where
+  at : slice_get (old ++ names_written es) (length old + n) ≡ Some e.name
+  at = get-behind old (names_written es) n ∙ name-at es n e l is
 
-  texts-pushed : (xs : List Text) → texts_of_keys (xs ++ v ∷ []) ≡ texts_of_keys xs ++ v.items ∷ []
+  texts-pushed : (xs : List Text) → key_texts (xs ++ v ∷ []) ≡ key_texts xs ++ v.items ∷ []
   texts-pushed [] = refl
   texts-pushed (x ∷ xs) = ap (λ z. x.items ∷ z) (texts-pushed xs)
 
   pub added-more : (ks' : List Text) → list_any (λ (k : Text). pointwise nat_eq v.items k.items) ks ≡ false → ks' ≡ cond (list_any (λ (k : Text). pointwise nat_eq v.items k.items) ks) ks (ks ++ v ∷ []) →
       IsDistinct (λ (x y : Text). pointwise nat_eq x.items y.items) ks' → AreAdded old es (n + 1) ks'
   added-more ks' new e' d = record {
-    same = ap texts_of_keys (e' ∙ ap (λ b. cond b ks (ks ++ v ∷ [])) new) ∙ texts-pushed ks ∙ ap (λ z. texts_of_keys ks ++ z ∷ []) named ∙ ap (λ z. z ++ e.name ∷ []) a.same
-        ∙ sym (take-more (old ++ names_in es) (length old + n) e.name at) ∙ ap (λ k. take k (old ++ names_in es)) (let z : suc (length old + n) ≡ length old + (n + 1) = omega arith in z);
+    same = ap key_texts (e' ∙ ap (λ b. cond b ks (ks ++ v ∷ [])) new) ∙ texts-pushed ks ∙ ap (λ z. key_texts ks ++ z ∷ []) named ∙ ap (λ z. z ++ e.name ∷ []) a.same
+        ∙ sym (take-more (old ++ names_written es) (length old + n) e.name at) ∙ ap (λ k. take k (old ++ names_written es)) (let z : suc (length old + n) ≡ length old + (n + 1) = omega arith in z);
     apart = keys-differ ks' d;
   }
 
-  pub is-repeated : list_any (λ (k : Text). pointwise nat_eq v.items k.items) ks ≡ true → IsFirstRepeated (old ++ names_in es) e.name
+  pub is-repeated : list_any (λ (k : Text). pointwise nat_eq v.items k.items) ks ≡ true → IsFirstRepeated (old ++ names_written es) e.name
   is-repeated found =
       let h = key-there v.items ks found in
-      let here : slice_get (texts_of_keys ks) h.0 ≡ Some e.name = h.2 ∙ ap Some named in record {
+      let here : slice_get (key_texts ks) h.0 ≡ Some e.name = h.2 ∙ ap Some named in record {
         place = length old + n;
         stands = at;
         earlier = h.0;
-        before = (let b = ap (λ z. length z) a.same in let c = long-taken (old ++ names_in es) (length old + n) in let d = h.1 in omega arith);
-        same = get-taken (old ++ names_in es) (length old + n) h.0 e.name (ap (λ z. slice_get z h.0) (sym a.same) ∙ here);
+        before = (let b = ap (λ z. length z) a.same in let c = long-taken (old ++ names_written es) (length old + n) in let d = h.1 in omega arith);
+        same = get-taken (old ++ names_written es) (length old + n) h.0 e.name (ap (λ z. slice_get z h.0) (sym a.same) ∙ here);
         apart = subst AreDifferent a.same a.apart;
       }
     where
@@ -160,11 +159,11 @@ is-new new false e f = refl
 is-new new true e f = absurd (true-false (sym f ∙ e))
 
 -- a name that stands twice among the caps
-pub repeated-caps : (ks : List Text) (es caps tenants : List Entry) (fault : DemandFault) → ks ≡ [] → es ≡ caps → FailsAsRepeated (IsFirstRepeated (texts_of_keys ks ++ names_in es)) fault → FailsAsRepeated (IsFirstRepeated (names_in caps ++ names_in tenants)) fault
+pub repeated-caps : (ks : List Text) (es caps tenants : List NamedRate) (fault : DemandFault) → ks ≡ [] → es ≡ caps → FailsAsRepeated (IsFirstRepeated (key_texts ks ++ names_written es)) fault → FailsAsRepeated (IsFirstRepeated (names_written caps ++ names_written tenants)) fault
 repeated-caps ks es caps tenants Json e f h = h
 repeated-caps ks es caps tenants (Shape what) e f h = h
 repeated-caps ks es caps tenants (TooLarge what count) e f h = h
 repeated-caps ks es caps tenants (DuplicateName name) e f h =
-    repeated-front (names_in caps) (names_in tenants) name (subst (λ (xs : List Entry). IsFirstRepeated (names_in xs) name) f (subst (λ (zs : List Text). IsFirstRepeated (texts_of_keys zs ++ names_in es) name) e h))
+    repeated-front (names_written caps) (names_written tenants) name (subst (λ (xs : List NamedRate). IsFirstRepeated (names_written xs) name) f (subst (λ (zs : List Text). IsFirstRepeated (key_texts zs ++ names_written es) name) e h))
 repeated-caps ks es caps tenants (UnknownCap name) e f h = h
 repeated-caps ks es caps tenants OutOfMemory e f h = h

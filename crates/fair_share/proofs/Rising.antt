@@ -6,7 +6,7 @@ use Rattle.std.proofs.lemmas.Option.{slice_get_within}
 use Rattle.fair_share.specs.declared.cap.Cap.{Cap}
 use Rattle.fair_share.specs.declared.cap.Tenant.{Tenant}
 use Rattle.fair_share.specs.Shares.{given_to, Demands, is_beneath, shares_beneath, IsFeasible, IsBoundBy}
-use Rattle.fair_share.specs.Filling.{AreUsed, HasRoom}
+use Rattle.fair_share.specs.Filling.{AreUsed, HaveRoomAbove}
 use Rattle.fair_share.proofs.Levels.{as_many}
 
 Some-same : {X : Type 0} {a b : X} → Some a ≡ Some b → a ≡ b
@@ -92,7 +92,7 @@ set-demands (t ∷ ts) (x ∷ xs) zero y tenant h e le = (subst (λ u. y ≤ u.d
 set-demands (t ∷ ts) (x ∷ xs) (suc i) y tenant h e le = (h.0, set-demands ts xs i y tenant h.1 e le)
 
 pub one-more : (d : Demands) (shares used : List ℕ) (i : ℕ) (tenant : Tenant) → IsFeasible d shares → AreUsed d shares used → slice_get d.tenants i ≡ Some tenant →
-    get_or shares i 0 < tenant.demand → HasRoom d.caps tenant.under used 1 → IsFeasible d (set shares i (get_or shares i 0 + 1))
+    get_or shares i 0 < tenant.demand → HaveRoomAbove d.caps tenant.under used 1 → IsFeasible d (set shares i (get_or shares i 0 + 1))
 one-more d shares used i tenant feasible are e lt room = record {
   demands = set-demands d.tenants shares i (get_or shares i 0 + 1) tenant feasible.demands e (omega arith);
   caps = λ c cap s. by c cap s (is_beneath d c tenant) refl (set-adds (is_beneath d c) d.tenants shares i 1 tenant (sym (as_many (λ (t : Tenant) x. x ≤ t.demand) d.tenants shares feasible.demands)) e);

@@ -5,13 +5,13 @@ use Rattle.std.specs.List.{AllByRecursion}
 use Rattle.std.specs.Fmt.{decimal}
 use Rattle.std.proofs.lemmas.List.{append_cancel_left}
 use Rattle.std.proofs.lemmas.List.Elements.{recursion_from_All}
-use Rattle.merlin_base.specs.Lexemes.{Lacks, IsName, IsIdentifier, IsNameByte, AreNameBytes, IsDigit}
+use Rattle.merlin_base.specs.Lexemes.{Lacks, IsName, IsIdentifier, IsNameByte, IsDigit}
 use Rattle.merlin_base.proofs.Cutting.{Free, free, free_append, free_middle, AreSame, cut_once}
-use Rattle.merlin_base.proofs.Decimals.{is_decimal, decimal_free, decimal_same}
+use Rattle.merlin_base.proofs.Decimals.{is_decimal, decimal_free}
 use Rattle.fair_share.specs.declared.cap.Cap.{Cap}
 use Rattle.fair_share.specs.declared.cap.Tenant.{Tenant}
 use Rattle.fair_share.specs.declared.share.Share.{Share}
-use Rattle.fair_share.specs.ShareTexts.{cap_name, bound_text, share_words, share_line, AreNamed, IsShare}
+use Rattle.fair_share.specs.ShareTexts.{cap_name, cap_bound_text, share_words, share_line, AreNamed, IsShare}
 
 -- The names of caps.
 
@@ -47,7 +47,7 @@ cap-name-free (cap ∷ caps) named (suc c) l = cap-name-free caps named.1 c (ome
 abbrev pub IsThere : List Cap → Option ℕ → Type 0
 IsThere caps cap = MatchOption cap ⊤ (λ c. c < length caps)
 
-bound-free : (caps : List Cap) → AreNamed caps → (cap : Option ℕ) → IsThere caps cap → Free 10 (bound_text caps cap)
+bound-free : (caps : List Cap) → AreNamed caps → (cap : Option ℕ) → IsThere caps cap → Free 10 (cap_bound_text caps cap)
 bound-free caps named None h = ((λ e. omega arith), ((λ e. omega arith), ((λ e. omega arith), ((λ e. omega arith), ((λ e. omega arith), ((λ e. omega arith), tt))))))
 bound-free caps named (Some c) h = ((λ e. omega arith), ((λ e. omega arith), ((λ e. omega arith), ((λ e. omega arith), cap-name-free caps named c h))))
 
@@ -89,24 +89,24 @@ five : (a n b d e f x r : List ℕ) → ((a ++ (n ++ (b ++ (d ++ (e ++ f))))) ++
 five a n b d e f x r = shift a (n ++ (b ++ (d ++ (e ++ f)))) x r ∙ ap (λ z. a ++ z) (shift n (b ++ (d ++ (e ++ f))) x r ∙ ap (λ z. n ++ z) (shift b (d ++ (e ++ f)) x r ∙ ap (λ z. b ++ z) (shift d (e ++ f) x r ∙ ap (λ z. d ++ z) (shift e f x r))))
 
 pub parts-of : (caps : List Cap) (t : Tenant) (s : Share) (rest : List ℕ) →
-    share_line caps t s ++ rest ≡ codes "share " ++ (t.name ++ (codes " " ++ (decimal s.rate ++ 107 ∷ (codes "bps " ++ ((bound_text caps s.cap ++ 10 ∷ []) ++ rest)))))
-parts-of caps t s rest = five (codes "share ") t.name (codes " ") (decimal s.rate) (codes "kbps ") (bound_text caps s.cap) (10 ∷ []) rest
+    share_line caps t s ++ rest ≡ codes "share " ++ (t.name ++ (codes " " ++ (decimal s.rate ++ 107 ∷ (codes "bps " ++ ((cap_bound_text caps s.cap ++ 10 ∷ []) ++ rest)))))
+parts-of caps t s rest = five (codes "share ") t.name (codes " ") (decimal s.rate) (codes "kbps ") (cap_bound_text caps s.cap) (10 ∷ []) rest
 
 -- A bound that is read.
 
 pub bound-named : (caps : List Cap) (text named name rest : List ℕ) (c : ℕ) → text ≡ codes "cap " ++ named → named ≡ name ++ 10 ∷ rest → slice_get (map (λ cap. cap.name) caps) c ≡ Some name →
-    (text ≡ (bound_text caps (Some c) ++ 10 ∷ []) ++ rest) × (c < length caps)
+    (text ≡ (cap_bound_text caps (Some c) ++ 10 ∷ []) ++ rest) × (c < length caps)
 bound-named caps text named name rest c e f at =
     let h = named-at caps c name at in
     (e ∙ ap (λ z. codes "cap " ++ z) (f ∙ ap (λ z. z ++ 10 ∷ rest) (sym h.0) ∙ sym (append_assoc (cap_name caps c) (10 ∷ []) rest)) ∙ sym (shift (codes "cap ") (cap_name caps c) (10 ∷ []) rest), h.1)
 
-pub behind-cap : (caps : List Cap) (text rest : List ℕ) (c : ℕ) → text ≡ (bound_text caps (Some c) ++ 10 ∷ []) ++ rest → text ≡ codes "cap " ++ (cap_name caps c ++ 10 ∷ rest)
+pub behind-cap : (caps : List Cap) (text rest : List ℕ) (c : ℕ) → text ≡ (cap_bound_text caps (Some c) ++ 10 ∷ []) ++ rest → text ≡ codes "cap " ++ (cap_name caps c ++ 10 ∷ rest)
 behind-cap caps text rest c e = e ∙ shift (codes "cap ") (cap_name caps c) (10 ∷ []) rest ∙ ap (λ z. codes "cap " ++ z) (append_assoc (cap_name caps c) (10 ∷ []) rest)
 
 -- Why no bound is read.
 
 abbrev pub IsNoBound : List Cap → List ℕ → Type 0
-IsNoBound caps text = (cap : Option ℕ) (rest : List ℕ) → IsThere caps cap → text ≡ (bound_text caps cap ++ 10 ∷ []) ++ rest → ⊥
+IsNoBound caps text = (cap : Option ℕ) (rest : List ℕ) → IsThere caps cap → text ≡ (cap_bound_text caps cap ++ 10 ∷ []) ++ rest → ⊥
 
 pub neither : (caps : List Cap) (text : List ℕ) → ((rest : List ℕ) → text ≡ codes "demand\n" ++ rest → ⊥) → ((rest : List ℕ) → text ≡ codes "cap " ++ rest → ⊥) → IsNoBound caps text
 neither caps text a b None rest there e = a rest e
@@ -143,28 +143,28 @@ module _ (caps : List Cap) (t : Tenant) (text : List ℕ) where
   no-word none s rest is e = none _ (e ∙ parts-of caps t s rest)
 
   module _ (named : List ℕ) (f : text ≡ codes "share " ++ named) where
-    behind-word : (s : Share) (rest : List ℕ) → text ≡ share_line caps t s ++ rest → named ≡ t.name ++ (codes " " ++ (decimal s.rate ++ 107 ∷ (codes "bps " ++ ((bound_text caps s.cap ++ 10 ∷ []) ++ rest))))
+    behind-word : (s : Share) (rest : List ℕ) → text ≡ share_line caps t s ++ rest → named ≡ t.name ++ (codes " " ++ (decimal s.rate ++ 107 ∷ (codes "bps " ++ ((cap_bound_text caps s.cap ++ 10 ∷ []) ++ rest))))
     behind-word s rest e = append_cancel_left (codes "share ") named _ (sym f ∙ (e ∙ parts-of caps t s rest))
 
     pub no-name : ((rest : List ℕ) → named ≡ t.name ++ rest → ⊥) → IsNoShare caps t text
     no-name none s rest is e = none _ (behind-word s rest e)
 
     module _ (behind : List ℕ) (g : named ≡ t.name ++ behind) where
-      behind-name : (s : Share) (rest : List ℕ) → text ≡ share_line caps t s ++ rest → behind ≡ codes " " ++ (decimal s.rate ++ 107 ∷ (codes "bps " ++ ((bound_text caps s.cap ++ 10 ∷ []) ++ rest)))
+      behind-name : (s : Share) (rest : List ℕ) → text ≡ share_line caps t s ++ rest → behind ≡ codes " " ++ (decimal s.rate ++ 107 ∷ (codes "bps " ++ ((cap_bound_text caps s.cap ++ 10 ∷ []) ++ rest)))
       behind-name s rest e = append_cancel_left t.name behind _ (sym g ∙ behind-word s rest e)
 
       pub no-blank : ((rest : List ℕ) → behind ≡ codes " " ++ rest → ⊥) → IsNoShare caps t text
       no-blank none s rest is e = none _ (behind-name s rest e)
 
       module _ (number : List ℕ) (h : behind ≡ codes " " ++ number) where
-        number-of : (s : Share) (rest : List ℕ) → text ≡ share_line caps t s ++ rest → number ≡ decimal s.rate ++ 107 ∷ (codes "bps " ++ ((bound_text caps s.cap ++ 10 ∷ []) ++ rest))
+        number-of : (s : Share) (rest : List ℕ) → text ≡ share_line caps t s ++ rest → number ≡ decimal s.rate ++ 107 ∷ (codes "bps " ++ ((cap_bound_text caps s.cap ++ 10 ∷ []) ++ rest))
         number-of s rest e = append_cancel_left (codes " ") number _ (sym h ∙ behind-name s rest e)
 
         pub no-unit : Lacks 107 number → IsNoShare caps t text
         no-unit lacking s rest is e = free_middle 107 (decimal s.rate) _ (subst (Free 107) (number-of s rest e) (free 107 number lacking))
 
         module _ (digits unit : List ℕ) (k : number ≡ digits ++ 107 ∷ unit) (lacking : Lacks 107 digits) where
-          cut : (s : Share) (rest : List ℕ) → IsShare caps s → text ≡ share_line caps t s ++ rest → AreSame digits (decimal s.rate) unit (codes "bps " ++ ((bound_text caps s.cap ++ 10 ∷ []) ++ rest))
+          cut : (s : Share) (rest : List ℕ) → IsShare caps s → text ≡ share_line caps t s ++ rest → AreSame digits (decimal s.rate) unit (codes "bps " ++ ((cap_bound_text caps s.cap ++ 10 ∷ []) ++ rest))
           cut s rest is e = cut_once 107 digits (decimal s.rate) unit _ (free 107 digits lacking) (digit-free s.rate is.rate) (sym k ∙ number-of s rest e)
 
           pub no-rate : ((rate : ℕ) → rate ≤ 1000000000 → digits ≡ decimal rate → ⊥) → IsNoShare caps t text
@@ -174,10 +174,10 @@ module _ (caps : List Cap) (t : Tenant) (text : List ℕ) where
           no-kbps none s rest is e = none _ (cut s rest is e).rest
 
           pub no-bound : (bound : List ℕ) → unit ≡ codes "bps " ++ bound → IsNoBound caps bound → IsNoShare caps t text
-          no-bound bound b none s rest is e = none s.cap rest is.cap (append_cancel_left (codes "bps ") bound ((bound_text caps s.cap ++ 10 ∷ []) ++ rest) (sym b ∙ (cut s rest is e).rest))
+          no-bound bound b none s rest is e = none s.cap rest is.cap (append_cancel_left (codes "bps ") bound ((cap_bound_text caps s.cap ++ 10 ∷ []) ++ rest) (sym b ∙ (cut s rest is e).rest))
 
           -- or what is read
-          pub a-share : (bound rest : List ℕ) (rate : ℕ) (cap : Option ℕ) → unit ≡ codes "bps " ++ bound → digits ≡ decimal rate → bound ≡ (bound_text caps cap ++ 10 ∷ []) ++ rest → text ≡ share_line caps t (record { rate = rate; cap = cap }) ++ rest
+          pub a-share : (bound rest : List ℕ) (rate : ℕ) (cap : Option ℕ) → unit ≡ codes "bps " ++ bound → digits ≡ decimal rate → bound ≡ (cap_bound_text caps cap ++ 10 ∷ []) ++ rest → text ≡ share_line caps t (record { rate = rate; cap = cap }) ++ rest
           a-share bound rest rate cap b d e =
               f ∙ ap (λ z. codes "share " ++ z) (g ∙ ap (λ z. t.name ++ z) (h ∙ ap (λ z. codes " " ++ z) (k ∙ ap (λ z. z ++ 107 ∷ unit) d ∙ ap (λ z. decimal rate ++ 107 ∷ z) (b ∙ ap (λ z. codes "bps " ++ z) e))))
               ∙ sym (parts-of caps t (record { rate = rate; cap = cap }) rest)

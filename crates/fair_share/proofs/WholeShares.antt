@@ -1,17 +1,15 @@
 -- The text of a division, from the first line to the last.
-use Rattle.std.proofs.Common.{◌≡◌, ℕ, zero, suc, ◌+◌, ◌-◌, ◌≤◌, ◌<◌, inl, inr, List, [], ◌∷◌, ◌++◌, length, map, take, drop, None, Some, slice_get, get_or, refl, sym, ◌∙◌, ap, ap₂, subst, append_assoc, append-nil, arith}
-use Rattle.std.specs.Bool.{⊤}
-use Rattle.std.specs.List.{AllByRecursion, AllZip, zip}
+use Rattle.std.proofs.Common.{◌≡◌, ℕ, zero, suc, ◌+◌, ◌-◌, ◌≤◌, ◌<◌, inl, inr, List, [], ◌∷◌, ◌++◌, length, map, take, drop, None, get_or, refl, sym, ◌∙◌, ap, subst, append_assoc, append-nil, arith}
+use Rattle.std.specs.List.{AllZip, zip}
 use Rattle.merlin_base.specs.Texts.{joined}
 use Rattle.merlin_base.specs.Lexemes.{IsName}
-use Rattle.merlin_base.specs.Faults.{IsWholeLines, IsFirstWrongLine, GoesWrong}
-use Rattle.merlin_base.proofs.Cutting.{Free, AreSame, cut_once}
+use Rattle.merlin_base.specs.Faults.{IsWholeLines, IsFirstWrongLine}
+use Rattle.merlin_base.proofs.Cutting.{cut_once}
 use Rattle.merlin_base.proofs.WrongLines.{line_wrong, whole_lines, lift_wrong, whole_wrong, past_end}
 use Rattle.fair_share.specs.declared.cap.Cap.{Cap}
 use Rattle.fair_share.specs.declared.cap.Tenant.{Tenant}
 use Rattle.fair_share.specs.declared.share.Share.{Share}
-use Rattle.fair_share.specs.Shares.{Demands}
-use Rattle.fair_share.specs.ShareTexts.{share_words, share_line, share_lines, shares_text, AreNamed, HaveNames, IsShare, AreShares}
+use Rattle.fair_share.specs.ShareTexts.{share_words, share_line, AreNamed, HaveNames, IsShare}
 use Rattle.fair_share.proofs.ShareLines.{words-free, IsNoShare}
 
 -- the lines of tenants, one after another

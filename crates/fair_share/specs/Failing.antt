@@ -4,11 +4,11 @@ use Rattle.std.specs.List.{AllByRecursion}
 use Rattle.std.specs.declared.alloc.Global.{Global}
 use Rattle.merlin_base.specs.Lexemes.{IsName}
 use Rattle.merlin_model.specs.declared.limits.TheConstants.{MAX_RATE}
-use Rattle.fair_share.specs.declared.entry.Entry.{Entry}
-use Rattle.fair_share.specs.declared.entry.Entries.{Entries}
+use Rattle.fair_share.specs.declared.entry.NamedRate.{NamedRate}
+use Rattle.fair_share.specs.declared.entry.NamedRates.{NamedRates}
 use Rattle.fair_share.specs.declared.fault.DemandFault.{DemandFault}
 use Rattle.fair_share.specs.declared.fault.DemandFault.TheVariants.{Json, Shape, TooLarge, DuplicateName, UnknownCap, OutOfMemory}
-use Rattle.fair_share.specs.declared.entry.Part.{Part}
+use Rattle.fair_share.specs.declared.entry.ElementPart.{ElementPart}
 use Rattle.fair_share.specs.declared.entry.PartFault.{PartFault}
 use Rattle.fair_share.specs.declared.entry.PartFault.TheVariants as part
 
@@ -22,7 +22,7 @@ FailsAs IsWrong (UnknownCap name) = ⊥
 FailsAs IsWrong OutOfMemory = ⊤
 
 -- memory ran out, or this part is missing or wrong
-abbrev pub FailsAsPart : (Part → Type 0) → PartFault → Type 0
+abbrev pub FailsAsPart : (ElementPart → Type 0) → PartFault → Type 0
 FailsAsPart IsWrong (part.Wrong which) = IsWrong which
 FailsAsPart IsWrong part.OutOfMemory = ⊤
 
@@ -45,15 +45,15 @@ FailsAsUnknown IsUnknown (UnknownCap name) = IsUnknown name
 FailsAsUnknown IsUnknown OutOfMemory = ⊤
 
 -- a name, and a rate within its limit
-abbrev pub IsLawful : Entry → Type 0
-IsLawful entry = IsName entry.name × (entry.rate ≤ MAX_RATE)
+abbrev pub IsLawfulRate : NamedRate → Type 0
+IsLawfulRate entry = IsName entry.name × (entry.rate ≤ MAX_RATE)
 
-abbrev pub AreLawful : Entries → Type 0
-AreLawful entries = AllByRecursion IsLawful entries.caps.items × AllByRecursion IsLawful entries.tenants.items
+abbrev pub AreLawful : NamedRates → Type 0
+AreLawful entries = AllByRecursion IsLawfulRate entries.caps.items × AllByRecursion IsLawfulRate entries.tenants.items
 
 -- the texts that a table has as keys
-abbrev pub texts_of_keys : List (Vec ℕ Global) → List (List ℕ)
-texts_of_keys keys = map (λ key. key.items) keys
+abbrev pub key_texts : List (Vec ℕ Global) → List (List ℕ)
+key_texts keys = map (λ key. key.items) keys
 
 -- memory ran out, or there are more of these than may be
 abbrev pub IsExcess : List ℕ → ℕ → DemandFault → Type 0

@@ -4,18 +4,18 @@ use Rattle.std.specs.Option.{option_map_or}
 use Rattle.fair_share.specs.declared.cap.Cap.{Cap}
 use Rattle.fair_share.specs.declared.cap.Tenant.{Tenant}
 use Rattle.fair_share.specs.declared.share.Share.{Share}
-use Rattle.fair_share.specs.Shares.{Demands, is_met, is_beneath, shares_beneath, given_to, IsFeasible, IsBoundBy, IsRight}
+use Rattle.fair_share.specs.Shares.{Demands, is_on_way, is_beneath, shares_beneath, given_to, IsFeasible, IsBoundBy, IsRight}
 
 abbrev pub demands : List Cap → List Tenant → Demands
 demands caps tenants = record { caps = caps; tenants = tenants }
 
 -- a place among the caps, or none
-abbrev pub IsPlace : List Cap → Option ℕ → Type 0
-IsPlace caps at = MatchOption at ⊤ (λ c. c < length caps)
+abbrev pub IsCapPlace : List Cap → Option ℕ → Type 0
+IsCapPlace caps at = MatchOption at ⊤ (λ c. c < length caps)
 
 -- each cap from a place up has room for an amount beside what is used
-abbrev pub HasRoom : List Cap → Option ℕ → List ℕ → ℕ → Type 0
-HasRoom caps at used amount = (c : ℕ) (cap : Cap) → slice_get caps c ≡ Some cap → is_met caps (length caps) at c ≡ true → slice_index used c + amount ≤ cap.rate
+abbrev pub HaveRoomAbove : List Cap → Option ℕ → List ℕ → ℕ → Type 0
+HaveRoomAbove caps at used amount = (c : ℕ) (cap : Cap) → slice_get caps c ≡ Some cap → is_on_way caps (length caps) at c ≡ true → slice_index used c + amount ≤ cap.rate
 
 -- what is given beneath each cap
 pub record AreUsed (d : Demands) (shares used : List ℕ) : Type 0 where
@@ -47,7 +47,7 @@ pub record IsBlocked (caps : List Cap) (at : Option ℕ) (used : List ℕ) (amou
   pub place : ℕ
   pub cap : Cap
   pub stands : slice_get caps place ≡ Some cap
-  pub met : is_met caps (length caps) at place ≡ true
+  pub met : is_on_way caps (length caps) at place ≡ true
   pub short : cap.rate < slice_index used place + amount
 
 -- The shares at a level: those that still rise have it, or all that they ask for; none has more; the others are settled.
@@ -74,7 +74,7 @@ abbrev pub IsEither : ℕ → ℕ → ℕ → Type 0
 IsEither n a b = (n ≡ a) ⊎ (n ≡ b)
 
 -- Between a level and the next: the first n tenants have gone on, and of the others some have.
-pub record IsBetween (d : Demands) (shares : List ℕ) (rising : List Bool) (used : List ℕ) (level n : ℕ) : Type 0 where
+pub record IsBetweenLevels (d : Demands) (shares : List ℕ) (rising : List Bool) (used : List ℕ) (level n : ℕ) : Type 0 where
   pub feasible : IsFeasible d shares
   pub taken : AreUsed d shares used
   pub as_many : length rising ≡ length d.tenants
@@ -93,7 +93,7 @@ pub record AreTops (d : Demands) (shares tops : List ℕ) : Type 0 where
 pub record IsFullAt (caps : List Cap) (at : Option ℕ) (used tops : List ℕ) (share c : ℕ) : Type 0 where
   pub cap : Cap
   pub stands : slice_get caps c ≡ Some cap
-  pub met : is_met caps (length caps) at c ≡ true
+  pub met : is_on_way caps (length caps) at c ≡ true
   pub full : slice_index used c ≡ cap.rate
   pub even : slice_index tops c ≤ share + 1
 

@@ -5,5 +5,5 @@ use Rattle.fair_share.specs.Shares.{Demands, IsDemands}
 abbrev pub demands_in : Inside → Demands
 demands_in d = record { caps = d.caps.items; tenants = d.tenants.items }
 
-abbrev pub AreKept : Inside → Type 0
-AreKept d = IsDemands (demands_in d)
+abbrev pub AreKeptDemands : Inside → Type 0
+AreKeptDemands d = IsDemands (demands_in d)

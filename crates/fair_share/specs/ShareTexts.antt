@@ -18,14 +18,14 @@ use Rattle.fair_share.specs.Shares.{Demands}
 abbrev pub cap_name : List Cap → ℕ → List ℕ
 cap_name caps c = option_map_or (λ cap. cap.name) (slice_get caps c) []
 
-abbrev pub bound_text : List Cap → Option ℕ → List ℕ
-bound_text caps None = codes "demand"
-bound_text caps (Some c) = codes "cap " ++ cap_name caps c
+abbrev pub cap_bound_text : List Cap → Option ℕ → List ℕ
+cap_bound_text caps None = codes "demand"
+cap_bound_text caps (Some c) = codes "cap " ++ cap_name caps c
 
 -- a line without its newline
 abbrev pub share_words : List Cap → Tenant → Share → List ℕ
 share_words caps tenant share =
-    codes "share " ++ (tenant.name ++ (codes " " ++ (decimal share.rate ++ (codes "kbps " ++ bound_text caps share.cap))))
+    codes "share " ++ (tenant.name ++ (codes " " ++ (decimal share.rate ++ (codes "kbps " ++ cap_bound_text caps share.cap))))
 
 abbrev pub share_line : List Cap → Tenant → Share → List ℕ
 share_line caps tenant share = share_words caps tenant share ++ 10 ∷ []

@@ -30,14 +30,14 @@ pub record AreNested (d : Demands) : Type 0 where
   pub tenants : HavePlaces d.caps d.tenants
 
 -- the names of the caps, then those of the tenants
-abbrev pub names_of : Demands → List (List ℕ)
-names_of d = map (λ cap. cap.name) d.caps ++ map (λ tenant. tenant.name) d.tenants
+abbrev pub demand_names : Demands → List (List ℕ)
+demand_names d = map (λ cap. cap.name) d.caps ++ map (λ tenant. tenant.name) d.tenants
 
 -- What all demands keep that are read: names of which no two are alike, and numbers within their limits.
 pub record IsDemands (d : Demands) : Type 0 where
   pub nested : AreNested d
-  pub names : AllByRecursion IsName (names_of d)
-  pub differ : AreDifferent (names_of d)
+  pub names : AllByRecursion IsName (demand_names d)
+  pub differ : AreDifferent (demand_names d)
   pub few_caps : length d.caps ≤ MAX_CAPS
   pub few_tenants : length d.tenants ≤ MAX_TENANTS
   pub rates : AllByRecursion (λ cap. cap.rate ≤ MAX_RATE) d.caps
@@ -48,14 +48,14 @@ abbrev pub cap_above : List Cap → ℕ → Option ℕ
 cap_above caps c = option_map_or (λ cap. cap.under) (slice_get caps c) None
 
 -- whether cap c is met on the way up, in at most n caps: the cap that one is under, the one that this is under, and so on
-abbrev pub is_met : List Cap → ℕ → Option ℕ → ℕ → Bool
-is_met caps zero at c = false
-is_met caps (suc n) None c = false
-is_met caps (suc n) (Some k) c = (k == c) || is_met caps n (cap_above caps k) c
+abbrev pub is_on_way : List Cap → ℕ → Option ℕ → ℕ → Bool
+is_on_way caps zero at c = false
+is_on_way caps (suc n) None c = false
+is_on_way caps (suc n) (Some k) c = (k == c) || is_on_way caps n (cap_above caps k) c
 
 -- whether a tenant is beneath a cap. A cap is under an earlier one, so no way up has more caps than there are.
 abbrev pub is_beneath : Demands → ℕ → Tenant → Bool
-is_beneath d c tenant = is_met d.caps (length d.caps) tenant.under c
+is_beneath d c tenant = is_on_way d.caps (length d.caps) tenant.under c
 
 -- what the tenants are given of whom something is true
 abbrev pub given_to : (Tenant → Bool) → List Tenant → List ℕ → List ℕ
@@ -72,7 +72,7 @@ pub record IsFeasible (d : Demands) (shares : List ℕ) : Type 0 where
   pub caps : (c : ℕ) (cap : Cap) → slice_get d.caps c ≡ Some cap → sum (shares_beneath d c shares) ≤ cap.rate
 
 -- the same numbers in ascending order
-pub record IsInOrder (xs ys : List ℕ) : Type 0 where
+pub record IsAscendingForm (xs ys : List ℕ) : Type 0 where
   pub same : IsPermutation xs ys
   pub ascending : IsNonDecreasing ys
 
@@ -84,9 +84,9 @@ IsGreater (x ∷ xs) (y ∷ ys) = (y < x) ⊎ ((x ≡ y) × IsGreater xs ys)
 
 -- A feasible division is best when no feasible one is greater, both in ascending order: the least share can't be raised,
 -- and with it as it is the next can't, and so on.
-pub record IsBest (d : Demands) (shares : List ℕ) : Type 0 where
+pub record IsBestDivision (d : Demands) (shares : List ℕ) : Type 0 where
   pub feasible : IsFeasible d shares
-  pub greatest : (other ordered other_ordered : List ℕ) → IsFeasible d other → IsInOrder shares ordered → IsInOrder other other_ordered →
+  pub greatest : (other ordered other_ordered : List ℕ) → IsFeasible d other → IsAscendingForm shares ordered → IsAscendingForm other other_ordered →
       ¬ IsGreater other_ordered ordered
 
 -- Cap c is why a share isn't more: what is given beneath it fills it, and none of that is greater by more than 1.
@@ -101,15 +101,15 @@ pub record IsBoundBy (d : Demands) (shares : List ℕ) (tenant : Tenant) (share 
 abbrev pub IsRight : Demands → List ℕ → Tenant → Share → Type 0
 IsRight d shares tenant share = MatchOption share.cap (share.rate ≡ tenant.demand) (IsBoundBy d shares tenant share.rate)
 
-abbrev pub rates_of : List Share → List ℕ
-rates_of shares = map (λ s. s.rate) shares
+abbrev pub share_rates : List Share → List ℕ
+share_rates shares = map (λ s. s.rate) shares
 
 abbrev pub AreRight : Demands → List Share → Type 0
-AreRight d shares = AllZip (IsRight d (rates_of shares)) d.tenants shares
+AreRight d shares = AllZip (IsRight d (share_rates shares)) d.tenants shares
 
 -- The division is feasible, and each line is right.
 pub record IsSound (d : Demands) (shares : List Share) : Type 0 where
-  pub feasible : IsFeasible d (rates_of shares)
+  pub feasible : IsFeasible d (share_rates shares)
   pub right : AreRight d shares
 
 -- a cap that a tenant is beneath is given away beyond its rate
@@ -131,6 +131,6 @@ pub record IsFirstUnsound (d : Demands) (shares : List Share) (place : ℕ) : Ty
   pub stands : slice_get d.tenants place ≡ Some tenant
   pub share : Share
   pub given : slice_get shares place ≡ Some share
-  pub unsound : IsUnsound d (rates_of shares) tenant share
+  pub unsound : IsUnsound d (share_rates shares) tenant share
   pub before : (i : ℕ) (t : Tenant) (s : Share) → i < place → slice_get d.tenants i ≡ Some t →
-      slice_get shares i ≡ Some s → ¬ IsUnsound d (rates_of shares) t s
+      slice_get shares i ≡ Some s → ¬ IsUnsound d (share_rates shares) t s

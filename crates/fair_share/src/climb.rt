@@ -1,16 +1,17 @@
 //! From a tenant up through its caps.
 ghost use Rattle.std.specs.Prelude.{◌≡◌, ℕ, ◌≤◌, ◌<◌, ◌+◌, ◌↔◌, max, true, IsTrue, length, slice_index, Bool, MatchBool, MatchOption, if◌then◌else◌};
-ghost use Rattle.fair_share.specs.Shares.{IsForest, is_met};
-ghost use Rattle.fair_share.specs.Filling.{IsPlace, HasRoom, IsBlocked, IsFullAt, IsInnermost};
+ghost use Rattle.fair_share.specs.Shares.{IsForest, is_on_way};
+ghost use Rattle.fair_share.specs.Filling.{IsCapPlace, HaveRoomAbove, IsBlocked, IsFullAt, IsInnermost};
 
 use crate::cap::Cap;
 
 // Whether each cap from a place up has room for an amount beside what is used.
 pub(crate) fn has_room(caps: &[Cap], start: Option<usize>, used: &[u128], amount: u128) -> bool
     requires forest { IsForest caps.now }
-    requires place { IsPlace caps.now start }
+    requires place { IsCapPlace caps.now start }
     requires as_many { length used.now ≡ length caps.now }
-    ensures { MatchBool result (HasRoom caps.now start used.now amount) (IsBlocked caps.now start used.now amount) }
+    ensures { MatchBool result (HaveRoomAbove caps.now start used.now amount)
+        (IsBlocked caps.now start used.now amount) }
 {
     let mut at = start;
     let mut left = caps.len();
@@ -33,11 +34,13 @@ pub(crate) fn has_room(caps: &[Cap], start: Option<usize>, used: &[u128], amount
 // Adds an amount to what is used of each cap from a place up.
 pub(crate) fn add_up(caps: &[Cap], start: Option<usize>, amount: u128, used: &mut [u128])
     requires forest { IsForest caps.now }
-    requires place { IsPlace caps.now start }
+    requires place { IsCapPlace caps.now start }
     requires as_many { length used.old ≡ length caps.now }
-    requires room { HasRoom caps.now start used.old amount }
+    requires room { HaveRoomAbove caps.now start used.old amount }
     ensures as_many { length used.new ≡ length caps.now }
-    ensures each { (c : ℕ) → c < length caps.now → slice_index used.new c ≡ slice_index used.old c + (if is_met caps.now (length caps.now) start c then amount else 0) }
+    ensures each { (c : ℕ) → c < length caps.now →
+        slice_index used.new c ≡ slice_index used.old c + (if is_on_way caps.now
+        (length caps.now) start c then amount else 0) }
 {
     let mut at = start;
     let mut left = caps.len();
@@ -64,10 +67,12 @@ fn greater(a: u64, b: u64) -> u64
 // Raises the top of each cap from a place up to a share.
 pub(crate) fn top_up(caps: &[Cap], start: Option<usize>, share: u64, tops: &mut [u64])
     requires forest { IsForest caps.now }
-    requires place { IsPlace caps.now start }
+    requires place { IsCapPlace caps.now start }
     requires as_many { length tops.old ≡ length caps.now }
     ensures as_many { length tops.new ≡ length caps.now }
-    ensures each { (c m : ℕ) → c < length caps.now → (slice_index tops.new c ≤ m) ↔ ((slice_index tops.old c ≤ m) × (is_met caps.now (length caps.now) start c ≡ true → share ≤ m)) }
+    ensures each { (c m : ℕ) → c < length caps.now →
+        (slice_index tops.new c ≤ m) ↔ ((slice_index tops.old c ≤ m) × (is_on_way caps.now
+        (length caps.now) start c ≡ true → share ≤ m)) }
 {
     let mut at = start;
     let mut left = caps.len();
@@ -98,10 +103,12 @@ pub(crate) fn full_cap(
     share: u64,
 ) -> Option<usize>
     requires forest { IsForest caps.now }
-    requires place { IsPlace caps.now start }
+    requires place { IsCapPlace caps.now start }
     requires used { length used.now ≡ length caps.now }
     requires tops { length tops.now ≡ length caps.now }
-    ensures { MatchOption result ((c : ℕ) → ¬ IsFullAt caps.now start used.now tops.now share c) (IsInnermost caps.now start used.now tops.now share) }
+    ensures { MatchOption result ((c : ℕ) →
+        ¬ IsFullAt caps.now start used.now tops.now share c)
+        (IsInnermost caps.now start used.now tops.now share) }
 {
     let mut at = start;
     let mut left = caps.len();
@@ -122,8 +129,8 @@ pub(crate) fn full_cap(
 // Whether a cap is met on the way up from a place.
 pub(crate) fn is_under(caps: &[Cap], start: Option<usize>, wanted: usize) -> bool
     requires forest { IsForest caps.now }
-    requires place { IsPlace caps.now start }
-    ensures is { result ≡ is_met caps.now (length caps.now) start wanted }
+    requires place { IsCapPlace caps.now start }
+    ensures is { result ≡ is_on_way caps.now (length caps.now) start wanted }
     ensures within { IsTrue result → wanted < length caps.now }
 {
     let mut at = start;

@@ -18,11 +18,11 @@ impl Model for Demands {
 
     ghost Value = { Demands };
 
-    ghost use Rattle.fair_share.specs.Kept.{demands_in, AreKept};
+    ghost use Rattle.fair_share.specs.Kept.{demands_in, AreKeptDemands};
 
     ghost view = { demands_in };
 
-    ghost invariant = { AreKept };
+    ghost invariant = { AreKeptDemands };
 }
 
 impl Demands {

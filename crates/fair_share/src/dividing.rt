@@ -2,9 +2,9 @@
 ghost use Rattle.std.specs.Prelude.{◌≡◌, ℕ, List, length, IfOk};
 ghost use Rattle.std.specs.List.{AllZip};
 ghost use Rattle.fair_share.specs.declared.cap.Tenant.{Tenant};
-ghost use Rattle.fair_share.specs.Shares.{IsForest, HavePlaces, IsSound, IsBest, rates_of};
+ghost use Rattle.fair_share.specs.Shares.{IsForest, HavePlaces, IsSound, IsBestDivision, share_rates};
 ghost use Rattle.fair_share.specs.ShareTexts.{AreShares};
-ghost use Rattle.fair_share.specs.Filling.{demands, IsPlace, AreUsed, AreTops, IsSettled, IsNamed};
+ghost use Rattle.fair_share.specs.Filling.{demands, IsCapPlace, AreUsed, AreTops, IsSettled, IsNamed};
 
 use crate::cap::{Cap, Tenant};
 use crate::climb::full_cap;
@@ -18,7 +18,7 @@ use std::alloc::Global;
 // A tenant's line: the demand, or else the innermost cap that is full and holds no share above its own by more than 1.
 fn line_of(caps: &[Cap], tenant: &Tenant, rate: u64, used: &[u128], tops: &[u64]) -> Share
     requires forest { IsForest caps.now }
-    requires place { IsPlace caps.now tenant.now.under }
+    requires place { IsCapPlace caps.now tenant.now.under }
     requires used { length used.now ≡ length caps.now }
     requires tops { length tops.now ≡ length caps.now }
     ensures rate { result.rate ≡ rate }
@@ -41,7 +41,8 @@ fn divided(alloc: Global, caps: &[Cap], tenants: &[Tenant]) -> Result<Vec<Share>
     requires places { HavePlaces caps.now tenants.now }
     ensures sound { IfOk result (λ shares. IsSound (demands caps.now tenants.now) shares.items) }
     ensures named { IfOk result (λ shares.
-        AllZip (IsNamed (demands caps.now tenants.now) (rates_of shares.items)) tenants.now shares.items) }
+        AllZip (IsNamed (demands caps.now tenants.now)
+        (share_rates shares.items)) tenants.now shares.items) }
 {
     let given = fill(alloc, caps, tenants)?;
     let shares = given.shares.as_slice();
@@ -63,9 +64,9 @@ fn divided(alloc: Global, caps: &[Cap], tenants: &[Tenant]) -> Result<Vec<Share>
 /// Where memory ran out.
 pub fn divide(alloc: Global, demands: &Demands) -> Result<Vec<Share>, OutOfMemory>
     ensures sound { IfOk result (λ shares. IsSound demands.now shares.items) }
-    ensures best { IfOk result (λ shares. IsBest demands.now (rates_of shares.items)) }
+    ensures best { IfOk result (λ shares. IsBestDivision demands.now (share_rates shares.items)) }
     ensures named { IfOk result (λ shares.
-        AllZip (IsNamed demands.now (rates_of shares.items)) demands.now.tenants shares.items) }
+        AllZip (IsNamed demands.now (share_rates shares.items)) demands.now.tenants shares.items) }
     ensures lines { IfOk result (λ shares. AreShares demands.now shares.items) }
 {
     divided(alloc, &demands.caps, &demands.tenants)

@@ -4,7 +4,7 @@ ghost use Rattle.std.specs.String.{string_bytes};
 ghost use Rattle.serde_json.specs.Data.{Data};
 ghost use Rattle.serde_json.specs.View.{view};
 ghost use Rattle.fair_share.specs.declared.entry.PartFault.TheVariants as part;
-ghost use Rattle.fair_share.specs.Json.{HasText, HasItems};
+ghost use Rattle.fair_share.specs.Json.{HasTextMember, HasArray};
 ghost use Rattle.fair_share.specs.Format.{HasName, HasRate, HasUnder, IsEntryOf, HasEntries, AreEntriesOf};
 ghost use Rattle.fair_share.specs.Shape.{IsWrongPart, IsWrongArray, IsMisshapen, element_words};
 ghost use Rattle.fair_share.specs.Failing.{FailsAs, FailsAsPart};
@@ -16,7 +16,7 @@ use std::alloc::Global;
 
 /// A cap or a tenant as it is written: its name, its rate in kbit/s, and the name that it is under, if any.
 #[derive(Drop)]
-pub struct Entry {
+pub struct NamedRate {
     pub name: Name,
     pub rate: u64,
     pub under: Option<Name>,
@@ -24,14 +24,14 @@ pub struct Entry {
 
 /// Caps and tenants as they are written.
 #[derive(Drop)]
-pub struct Entries {
-    pub caps: Vec<Entry>,
-    pub tenants: Vec<Entry>,
+pub struct NamedRates {
+    pub caps: Vec<NamedRate>,
+    pub tenants: Vec<NamedRate>,
 }
 
 /// A part of an element: the element as an object, or one of its members.
 #[derive(Clone, Copy)]
-pub enum Part {
+pub enum ElementPart {
     Itself,
     Name,
     Rate,
@@ -41,7 +41,7 @@ pub enum Part {
 // Why an element is no entry.
 #[derive(Clone, Copy)]
 enum PartFault {
-    Wrong(Part),
+    Wrong(ElementPart),
     OutOfMemory,
 }
 
@@ -55,8 +55,8 @@ impl From<OutOfMemory> for PartFault {
 
 // The text under a name.
 fn text_under<'v>(value: &'v Value, key: &str) -> Option<&'v str>
-    ensures some { IfSome result (λ text. HasText key.now (view value.now) text.now) }
-    ensures none { IfNone result ((text : List ℕ) → ¬ HasText key.now (view value.now) text) }
+    ensures some { IfSome result (λ text. HasTextMember key.now (view value.now) text.now) }
+    ensures none { IfNone result ((text : List ℕ) → ¬ HasTextMember key.now (view value.now) text) }
 {
     value.get(key).and_then(Value::as_str)
 }
@@ -97,7 +97,8 @@ fn under_of(value: &Value) -> Option<Option<&str>>
 
 // A name that is kept, if there is one.
 fn kept_name(alloc: Global, text: Option<&str>) -> Result<Option<Name>, OutOfMemory>
-    ensures { IfOk result (λ name. MatchOption text.entry (name ≡ Option.None) (λ t. name ≡ Option.Some t.now)) }
+    ensures { IfOk result (λ name. MatchOption text.entry (name ≡ Option.None) (λ t. name
+        ≡ Option.Some t.now)) }
 {
     match text {
         Some(text) => Ok(Some(name_from(alloc, text.as_bytes())?)),
@@ -106,25 +107,25 @@ fn kept_name(alloc: Global, text: Option<&str>) -> Result<Option<Name>, OutOfMem
 }
 
 // The entry that an object describes.
-fn entry_of(alloc: Global, value: &Value, rate_key: &str) -> Result<Entry, PartFault>
+fn entry_of(alloc: Global, value: &Value, rate_key: &str) -> Result<NamedRate, PartFault>
     ensures ok { IfOk result (IsEntryOf rate_key.now (view value.now)) }
     ensures err { IfErr result (FailsAsPart (IsWrongPart rate_key.now (view value.now))) }
 {
     if !value.is_object() {
-        return Err(PartFault::Wrong(Part::Itself));
+        return Err(PartFault::Wrong(ElementPart::Itself));
     }
     let Some(name) = name_of(value) else {
-        return Err(PartFault::Wrong(Part::Name));
+        return Err(PartFault::Wrong(ElementPart::Name));
     };
     let Some(rate) = rate_of(value, rate_key) else {
-        return Err(PartFault::Wrong(Part::Rate));
+        return Err(PartFault::Wrong(ElementPart::Rate));
     };
     let Some(under) = under_of(value) else {
-        return Err(PartFault::Wrong(Part::Under));
+        return Err(PartFault::Wrong(ElementPart::Under));
     };
     let under = kept_name(alloc, under)?;
     let name = name_from(alloc, name.as_bytes())?;
-    Ok(Entry { name, rate, under })
+    Ok(NamedRate { name, rate, under })
 }
 
 // The fault of this shape.
@@ -143,20 +144,27 @@ fn words_for(
     key: &str,
     rate_key: &str,
     place: usize,
-    part: Part,
+    part: ElementPart,
 ) -> Result<String, OutOfMemory>
-    ensures { IfOk result (λ words. string_bytes words ≡ element_words key.now rate_key.now place part) }
+    ensures { IfOk result (λ words. string_bytes words
+        ≡ element_words key.now rate_key.now place part) }
 {
     match part {
-        Part::Itself => Ok(format!(in alloc; "{key}[{place}]")?),
-        Part::Name => Ok(format!(in alloc; "{key}[{place}].name")?),
-        Part::Rate => Ok(format!(in alloc; "{key}[{place}].{rate_key}")?),
-        Part::Under => Ok(format!(in alloc; "{key}[{place}].under")?),
+        ElementPart::Itself => Ok(format!(in alloc; "{key}[{place}]")?),
+        ElementPart::Name => Ok(format!(in alloc; "{key}[{place}].name")?),
+        ElementPart::Rate => Ok(format!(in alloc; "{key}[{place}].{rate_key}")?),
+        ElementPart::Under => Ok(format!(in alloc; "{key}[{place}].under")?),
     }
 }
 
 // The fault of a part of an element of an array.
-fn element_fault(alloc: Global, key: &str, rate_key: &str, place: usize, part: Part) -> DemandFault
+fn element_fault(
+    alloc: Global,
+    key: &str,
+    rate_key: &str,
+    place: usize,
+    part: ElementPart,
+) -> DemandFault
     ensures { FailsAs (λ words. words ≡ element_words key.now rate_key.now place part) result }
 {
     match words_for(alloc, key, rate_key, place, part) {
@@ -167,8 +175,8 @@ fn element_fault(alloc: Global, key: &str, rate_key: &str, place: usize, part: P
 
 fn items_under<'v>(value: &'v Value, key: &str) -> Option<&'v Vec<Value>>
     ensures some { IfSome result (λ items.
-        HasItems key.now (view value.now) (map view items.now.items)) }
-    ensures none { IfNone result ((items : List Data) → ¬ HasItems key.now (view value.now) items) }
+        HasArray key.now (view value.now) (map view items.now.items)) }
+    ensures none { IfNone result ((items : List Data) → ¬ HasArray key.now (view value.now) items) }
 {
     value.get(key).and_then(Value::as_array)
 }
@@ -179,8 +187,9 @@ fn entries_under(
     value: &Value,
     key: &str,
     rate_key: &str,
-) -> Result<Vec<Entry>, DemandFault>
-    ensures ok { IfOk result (λ entries. HasEntries key.now rate_key.now (view value.now) entries.items) }
+) -> Result<Vec<NamedRate>, DemandFault>
+    ensures ok { IfOk result (λ entries. HasEntries key.now rate_key.now
+        (view value.now) entries.items) }
     ensures err { IfErr result (FailsAs (IsWrongArray key.now rate_key.now (view value.now))) }
 {
     let Some(array) = items_under(value, key) else {
@@ -202,7 +211,7 @@ fn entries_under(
 }
 
 /// The caps and tenants that the value describes.
-pub(crate) fn entries_of(alloc: Global, value: &Value) -> Result<Entries, DemandFault>
+pub(crate) fn entries_of(alloc: Global, value: &Value) -> Result<NamedRates, DemandFault>
     ensures ok { IfOk result (AreEntriesOf (view value.now)) }
     ensures err { IfErr result (FailsAs (IsMisshapen (view value.now))) }
 {
@@ -211,5 +220,5 @@ pub(crate) fn entries_of(alloc: Global, value: &Value) -> Result<Entries, Demand
     }
     let caps = entries_under(alloc, value, "caps", "rate")?;
     let tenants = entries_under(alloc, value, "tenants", "demand")?;
-    Ok(Entries { caps, tenants })
+    Ok(NamedRates { caps, tenants })
 }

@@ -7,8 +7,8 @@
 ghost use Rattle.std.specs.Prelude.{◌≡◌, ℕ, ◌≤◌, ◌<◌, ◌+◌, ◌-◌, ◌^◌, ◌↔◌, length, slice_index, slice_index_or, slice_get, false, Some, IsTrue, IfOk, IfSome};
 ghost use Rattle.fair_share.specs.declared.cap.Cap.{Cap};
 ghost use Rattle.fair_share.specs.declared.cap.Tenant.{Tenant};
-ghost use Rattle.fair_share.specs.Shares.{IsForest, HavePlaces, IsFeasible, rates_of};
-ghost use Rattle.fair_share.specs.Filling.{demands, AreUsed, IsFilled, IsBetween, IsRaised, IsSettled, share_at};
+ghost use Rattle.fair_share.specs.Shares.{IsForest, HavePlaces, IsFeasible, share_rates};
+ghost use Rattle.fair_share.specs.Filling.{demands, AreUsed, IsFilled, IsBetweenLevels, IsRaised, IsSettled, share_at};
 
 use crate::cap::{Cap, Tenant};
 use crate::climb::{add_up, has_room};
@@ -49,9 +49,11 @@ fn shares_at(
     requires shares { length shares.now ≡ length tenants.now }
     requires rising { length rising.now ≡ length tenants.now }
     ensures as_many { IfOk result (λ next. length next.items ≡ length tenants.now) }
-    ensures each { IfOk result (λ next. (i : ℕ) (tenant : Tenant) → slice_get tenants.now i ≡ Some tenant →
-        slice_index (rates_of next.items) i
-        ≡ share_at (slice_index_or rising.now i false) (slice_index (rates_of shares.now) i) tenant.demand level) }
+    ensures each { IfOk result (λ next. (i : ℕ) (tenant : Tenant) →
+        slice_get tenants.now i ≡ Some tenant →
+        slice_index (share_rates next.items) i
+        ≡ share_at (slice_index_or rising.now i false) (slice_index
+        (share_rates shares.now) i) tenant.demand level) }
 {
     let mut next = Vec::with_capacity(alloc, tenants.len())?;
     for index in 0..tenants.len() {
@@ -88,12 +90,12 @@ fn at_level(
 ) -> Result<Option<Given>, OutOfMemory>
     requires forest { IsForest caps.now }
     requires places { HavePlaces caps.now tenants.now }
-    requires feasible { IsFeasible (demands caps.now tenants.now) (rates_of shares.now) }
+    requires feasible { IsFeasible (demands caps.now tenants.now) (share_rates shares.now) }
     requires rising { length rising.now ≡ length tenants.now }
     requires shares { length shares.now ≡ length tenants.now }
     ensures { IfOk result (λ found. IfSome found (λ given.
-        IsRaised (demands caps.now tenants.now) (rates_of shares.now) rising.now level
-        (rates_of given.shares.items) given.used.items)) }
+        IsRaised (demands caps.now tenants.now) (share_rates shares.now) rising.now level
+        (share_rates given.shares.items) given.used.items)) }
 {
     let next = shares_at(alloc, tenants, shares, rising, level)?;
     let used = sums_of(alloc, caps, tenants, &next)?;
@@ -123,8 +125,10 @@ fn one_more(
     ensures shares { length shares.new ≡ length tenants.now }
     ensures rising { length rising.new ≡ length tenants.now }
     ensures used { length used.new ≡ length caps.now }
-    ensures step { IsBetween (demands caps.now tenants.now) (rates_of shares.old) rising.old used.old level index →
-        IsBetween (demands caps.now tenants.now) (rates_of shares.new) rising.new used.new level (index + 1) }
+    ensures step { IsBetweenLevels (demands caps.now tenants.now)
+        (share_rates shares.old) rising.old used.old level index →
+        IsBetweenLevels (demands caps.now tenants.now)
+        (share_rates shares.new) rising.new used.new level (index + 1) }
 {
     let tenant = &tenants[index];
     let share = shares[index].rate;
@@ -159,8 +163,10 @@ fn next_level(
 )
     requires forest { IsForest caps.now }
     requires places { HavePlaces caps.now tenants.now }
-    requires between { IsBetween (demands caps.now tenants.now) (rates_of shares.old) rising.old used.old level 0 }
-    ensures { IsFilled (demands caps.now tenants.now) (rates_of shares.new) rising.new used.new (level + 1) }
+    requires between { IsBetweenLevels (demands caps.now tenants.now)
+        (share_rates shares.old) rising.old used.old level 0 }
+    ensures { IsFilled (demands caps.now tenants.now)
+        (share_rates shares.new) rising.new used.new (level + 1) }
 {
     for index in 0..tenants.len() {
         one_more(caps, tenants, level, index, shares, rising, used);
@@ -179,8 +185,10 @@ fn take_on(
     requires forest { IsForest caps.now }
     requires places { HavePlaces caps.now tenants.now }
     requires below { level < 2 ^ 64 - 1 }
-    requires filled { IsFilled (demands caps.now tenants.now) (rates_of given.old.shares.items) rising.now given.old.used.items level }
-    ensures { IfOk result (λ _. IsBetween (demands caps.now tenants.now) (rates_of given.new.shares.items) rising.now given.new.used.items level 0) }
+    requires filled { IsFilled (demands caps.now tenants.now)
+        (share_rates given.old.shares.items) rising.now given.old.used.items level }
+    ensures { IfOk result (λ _. IsBetweenLevels (demands caps.now tenants.now)
+        (share_rates given.new.shares.items) rising.now given.new.used.items level 0) }
 {
     let counts = counts_of(alloc, caps, tenants, &given.shares, rising)?;
     let easy = unhindered(alloc, caps, tenants, rising, &given.used, &counts)?;
@@ -239,9 +247,11 @@ fn rise(
 ) -> Result<u64, OutOfMemory>
     requires forest { IsForest caps.now }
     requires places { HavePlaces caps.now tenants.now }
-    requires filled { IsFilled (demands caps.now tenants.now) (rates_of given.old.shares.items) rising.now given.old.used.items level }
+    requires filled { IsFilled (demands caps.now tenants.now)
+        (share_rates given.old.shares.items) rising.now given.old.used.items level }
     requires below { level ≤ top }
-    ensures filled { IfOk result (λ higher. IsFilled (demands caps.now tenants.now) (rates_of given.new.shares.items) rising.now given.new.used.items higher) }
+    ensures filled { IfOk result (λ higher. IsFilled (demands caps.now tenants.now)
+        (share_rates given.new.shares.items) rising.now given.new.used.items higher) }
     ensures bounds { IfOk result (λ higher. (level ≤ higher) × (higher ≤ top)) }
 {
     let mut low = level;
@@ -270,7 +280,8 @@ fn rise(
 
 // The greatest demand.
 fn greatest_demand(tenants: &[Tenant]) -> u64
-    ensures { (i : ℕ) (tenant : Tenant) → slice_get tenants.now i ≡ Some tenant → tenant.demand ≤ result }
+    ensures { (i : ℕ) (tenant : Tenant) → slice_get tenants.now i ≡ Some tenant →
+        tenant.demand ≤ result }
 {
     let mut top = 0;
     for tenant in tenants {
@@ -285,10 +296,14 @@ fn greatest_demand(tenants: &[Tenant]) -> u64
 pub(crate) fn fill(alloc: Global, caps: &[Cap], tenants: &[Tenant]) -> Result<Given, OutOfMemory>
     requires forest { IsForest caps.now }
     requires places { HavePlaces caps.now tenants.now }
-    ensures feasible { IfOk result (λ given. IsFeasible (demands caps.now tenants.now) (rates_of given.shares.items)) }
-    ensures used { IfOk result (λ given. AreUsed (demands caps.now tenants.now) (rates_of given.shares.items) given.used.items) }
-    ensures settled { IfOk result (λ given. (i : ℕ) (tenant : Tenant) → slice_get tenants.now i ≡ Some tenant →
-        IsSettled (demands caps.now tenants.now) (rates_of given.shares.items) tenant (slice_index (rates_of given.shares.items) i)) }
+    ensures feasible { IfOk result (λ given. IsFeasible (demands caps.now tenants.now)
+        (share_rates given.shares.items)) }
+    ensures used { IfOk result (λ given. AreUsed (demands caps.now tenants.now)
+        (share_rates given.shares.items) given.used.items) }
+    ensures settled { IfOk result (λ given. (i : ℕ) (tenant : Tenant) →
+        slice_get tenants.now i ≡ Some tenant →
+        IsSettled (demands caps.now tenants.now) (share_rates given.shares.items) tenant
+        (slice_index (share_rates given.shares.items) i)) }
 {
     let top = greatest_demand(tenants);
     let none = Share { rate: 0, cap: None };

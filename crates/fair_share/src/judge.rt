@@ -2,8 +2,8 @@
 ghost use Rattle.std.specs.Prelude.{◌≡◌, ◌≤◌, ◌↔◌, ℕ, List, length, IfNone, IsTrue, MatchBool, MatchOption};
 ghost use Rattle.fair_share.specs.declared.limits.TheConstants.{MAX_CAPS};
 ghost use Rattle.fair_share.specs.declared.cap.Tenant.{Tenant};
-ghost use Rattle.fair_share.specs.Shares.{IsForest, HavePlaces, IsSound, IsUnsound, IsFirstUnsound, IsBest, rates_of};
-ghost use Rattle.fair_share.specs.Filling.{demands, IsPlace, AreUsed, AreTops, IsRightBy, IsFine};
+ghost use Rattle.fair_share.specs.Shares.{IsForest, HavePlaces, IsSound, IsUnsound, IsFirstUnsound, IsBestDivision, share_rates};
+ghost use Rattle.fair_share.specs.Filling.{demands, IsCapPlace, AreUsed, AreTops, IsRightBy, IsFine};
 
 use crate::cap::{Cap, Tenant};
 use crate::climb::{has_room, is_bound, is_under};
@@ -17,7 +17,7 @@ use crate::tops::top_all;
 // more than 1.
 fn is_right(caps: &[Cap], tenant: &Tenant, share: Share, used: &[u128], tops: &[u64]) -> bool
     requires forest { IsForest caps.now }
-    requires place { IsPlace caps.now tenant.now.under }
+    requires place { IsCapPlace caps.now tenant.now.under }
     requires used { length used.now ≡ length caps.now }
     requires tops { length tops.now ≡ length caps.now }
     ensures { IsTrue result ↔ IsRightBy caps.now used.now tops.now tenant.now share }
@@ -37,7 +37,7 @@ fn is_right(caps: &[Cap], tenant: &Tenant, share: Share, used: &[u128], tops: &[
 // Whether a tenant's line isn't right, or it is given more than it asks for, or is beneath a cap that is passed.
 fn is_unsound(caps: &[Cap], tenant: &Tenant, share: Share, used: &[u128], tops: &[u64]) -> bool
     requires forest { IsForest caps.now }
-    requires place { IsPlace caps.now tenant.now.under }
+    requires place { IsCapPlace caps.now tenant.now.under }
     requires used { length used.now ≡ length caps.now }
     requires tops { length tops.now ≡ length caps.now }
     ensures { (tenants : List Tenant) (shares : List ℕ) →
@@ -66,8 +66,8 @@ fn first_unsound(
     requires forest { IsForest caps.now }
     requires places { HavePlaces caps.now tenants.now }
     requires as_many { length shares.now ≡ length tenants.now }
-    requires used { AreUsed (demands caps.now tenants.now) (rates_of shares.now) used.now }
-    requires tops { AreTops (demands caps.now tenants.now) (rates_of shares.now) tops.now }
+    requires used { AreUsed (demands caps.now tenants.now) (share_rates shares.now) used.now }
+    requires tops { AreTops (demands caps.now tenants.now) (share_rates shares.now) tops.now }
     ensures { MatchOption result (IsSound (demands caps.now tenants.now) shares.now)
         (IsFirstUnsound (demands caps.now tenants.now) shares.now) }
 {
@@ -104,7 +104,7 @@ pub fn fair(demands: &Demands, shares: &[Share]) -> Option<usize>
     requires { length shares.now ≡ length demands.now.tenants }
     ensures sound { MatchOption result (IsSound demands.now shares.now)
         (IsFirstUnsound demands.now shares.now) }
-    ensures best { IfNone result (IsBest demands.now (rates_of shares.now)) }
+    ensures best { IfNone result (IsBestDivision demands.now (share_rates shares.now)) }
 {
     judged(&demands.caps, &demands.tenants, shares)
 }

@@ -1,11 +1,11 @@
 //! The names of caps and tenants: that no two are alike, and which cap one is.
 ghost use Rattle.std.specs.Prelude.{◌≡◌, ◌++◌, ◌↔◌, IsTrue, ℕ, List, None, Some, map, OnOk, IfOk, IfErr, IfSome, IfNone, slice_get};
 ghost use Rattle.merlin_model.specs.Networks.{AreDifferent};
-ghost use Rattle.fair_share.specs.Reading.{names_in, all_names, IsFirstRepeated};
-ghost use Rattle.fair_share.specs.Failing.{texts_of_keys, FailsAsRepeated};
+ghost use Rattle.fair_share.specs.Reading.{names_written, all_names, IsFirstRepeated};
+ghost use Rattle.fair_share.specs.Failing.{key_texts, FailsAsRepeated};
 
 use crate::cap::Cap;
-use crate::entry::{Entries, Entry};
+use crate::entry::{NamedRate, NamedRates};
 use crate::fault::DemandFault;
 use indexmap::IndexSet;
 use std::alloc::Global;
@@ -13,15 +13,15 @@ use std::alloc::Global;
 // Adds names behind those that are there, if no two are alike.
 fn add_names(
     alloc: Global,
-    entries: &[Entry],
+    entries: &[NamedRate],
     numbers: &mut IndexSet<Vec<u8>>,
 ) -> Result<(), DemandFault>
-    requires { AreDifferent (texts_of_keys numbers.old.keys) }
-    ensures ok { OnOk result ((texts_of_keys numbers.new.keys
-        ≡ texts_of_keys numbers.old.keys ++ names_in entries.now)
-        × AreDifferent (texts_of_keys numbers.new.keys)) }
+    requires { AreDifferent (key_texts numbers.old.keys) }
+    ensures ok { OnOk result ((key_texts numbers.new.keys
+        ≡ key_texts numbers.old.keys ++ names_written entries.now)
+        × AreDifferent (key_texts numbers.new.keys)) }
     ensures err { IfErr result (FailsAsRepeated
-        (IsFirstRepeated (texts_of_keys numbers.old.keys ++ names_in entries.now))) }
+        (IsFirstRepeated (key_texts numbers.old.keys ++ names_written entries.now))) }
 {
     for entry in entries {
         let name = Vec::from_slice(alloc, entry.name.bytes())?;
@@ -34,7 +34,7 @@ fn add_names(
 }
 
 // Fails where two names are alike.
-pub(crate) fn ask_names(alloc: Global, entries: &Entries) -> Result<(), DemandFault>
+pub(crate) fn ask_names(alloc: Global, entries: &NamedRates) -> Result<(), DemandFault>
     ensures ok { IfOk result (λ _. AreDifferent (all_names entries.now)) }
     ensures err { IfErr result (FailsAsRepeated (IsFirstRepeated (all_names entries.now))) }
 {
@@ -51,8 +51,10 @@ fn has_name(cap: &Cap, name: &[u8]) -> bool
 
 // The place of the cap of this name.
 pub(crate) fn cap_named(caps: &[Cap], name: &[u8]) -> Option<usize>
-    ensures some { IfSome result (λ c. slice_get (map (λ cap. cap.name) caps.now) c ≡ Some name.now) }
-    ensures none { IfNone result ((c : ℕ) → ¬ (slice_get (map (λ cap. cap.name) caps.now) c ≡ Some name.now)) }
+    ensures some { IfSome result (λ c. slice_get (map (λ cap. cap.name) caps.now) c
+        ≡ Some name.now) }
+    ensures none { IfNone result ((c : ℕ) →
+        ¬ (slice_get (map (λ cap. cap.name) caps.now) c ≡ Some name.now)) }
 {
     for index in 0..caps.len() {
         let cap = &caps[index];

@@ -1,13 +1,13 @@
 //! From the bytes to the demands.
 ghost use Rattle.std.specs.Prelude.{◌≡◌, ◌+◌, ◌<◌, ◌^◌, ℕ, List, Option, None, Some, map, IfOk, IfErr};
 ghost use Rattle.serde_json.specs.View.{view};
-ghost use Rattle.fair_share.specs.Json.{IsJson};
-ghost use Rattle.fair_share.specs.Reading.{names_in, names_before, IsPlaceOf, IsKnown, AreCapsOf, AreTenantsOf, AreFew, AreDemandsOf, IsDemandsText, IsFirstUnknown, AreRefused, Refuses};
+ghost use Rattle.fair_share.specs.Json.{IsJsonText};
+ghost use Rattle.fair_share.specs.Reading.{names_written, names_before, IsPlaceOf, IsKnown, AreCapsOf, AreTenantsOf, AreFew, AreDemandsOf, IsDemandsText, IsFirstUnknown, AreRefused, RefusesDemands};
 ghost use Rattle.fair_share.specs.Failing.{AreLawful, FailsAsUnknown, IsExcess};
 
 use crate::cap::{Cap, Tenant};
 use crate::demands::Demands;
-use crate::entry::{Entries, Entry, entries_of};
+use crate::entry::{NamedRate, NamedRates, entries_of};
 use crate::fault::DemandFault;
 use crate::limits::{MAX_CAPS, MAX_TENANTS};
 use crate::names::{ask_names, cap_named};
@@ -17,8 +17,8 @@ use std::alloc::Global;
 use std::str;
 
 fn value_of(alloc: Global, bytes: &[u8]) -> Result<Value, DemandFault>
-    ensures ok { IfOk result (λ v. IsJson bytes.now (view v)) }
-    ensures err { IfErr result (Refuses bytes.now) }
+    ensures ok { IfOk result (λ v. IsJsonText bytes.now (view v)) }
+    ensures err { IfErr result (RefusesDemands bytes.now) }
 {
     let Ok(text) = str::from_utf8(bytes) else {
         return Err(DemandFault::Json);
@@ -45,7 +45,7 @@ fn excess(alloc: Global, what: &str, limit: usize) -> DemandFault
 }
 
 // Fails where there are too many caps or tenants.
-fn ask_counts(alloc: Global, entries: &Entries) -> Result<(), DemandFault>
+fn ask_counts(alloc: Global, entries: &NamedRates) -> Result<(), DemandFault>
     ensures ok { IfOk result (λ _. AreFew entries.now) }
     ensures err { IfErr result (AreRefused entries.now) }
 {
@@ -77,9 +77,10 @@ fn place_of(alloc: Global, caps: &[Cap], under: &Option<Name>) -> Result<Option<
 }
 
 // The caps, each under one of those before it.
-fn caps_of(alloc: Global, entries: &[Entry]) -> Result<Vec<Cap>, DemandFault>
+fn caps_of(alloc: Global, entries: &[NamedRate]) -> Result<Vec<Cap>, DemandFault>
     ensures ok { IfOk result (λ caps. AreCapsOf entries.now caps.items) }
-    ensures err { IfErr result (FailsAsUnknown (IsFirstUnknown (names_before entries.now) entries.now)) }
+    ensures err { IfErr result (FailsAsUnknown (IsFirstUnknown
+        (names_before entries.now) entries.now)) }
 {
     let mut caps = Vec::with_capacity(alloc, entries.len())?;
     for place in 0..entries.len() {
@@ -93,7 +94,11 @@ fn caps_of(alloc: Global, entries: &[Entry]) -> Result<Vec<Cap>, DemandFault>
 }
 
 // The tenants, each under one of the caps.
-fn tenants_of(alloc: Global, caps: &[Cap], entries: &[Entry]) -> Result<Vec<Tenant>, DemandFault>
+fn tenants_of(
+    alloc: Global,
+    caps: &[Cap],
+    entries: &[NamedRate],
+) -> Result<Vec<Tenant>, DemandFault>
     ensures ok { IfOk result (λ tenants.
         AreTenantsOf (map (λ cap. cap.name) caps.now) entries.now tenants.items) }
     ensures err { IfErr result (FailsAsUnknown
@@ -115,7 +120,7 @@ fn tenants_of(alloc: Global, caps: &[Cap], entries: &[Entry]) -> Result<Vec<Tena
 }
 
 // The demands that entries are.
-fn numbered(alloc: Global, entries: &Entries) -> Result<Demands, DemandFault>
+fn numbered(alloc: Global, entries: &NamedRates) -> Result<Demands, DemandFault>
     requires { AreLawful entries.now }
     ensures ok { IfOk result (AreDemandsOf entries.now) }
     ensures err { IfErr result (AreRefused entries.now) }
@@ -133,7 +138,7 @@ fn numbered(alloc: Global, entries: &Entries) -> Result<Demands, DemandFault>
 /// The first rule that is broken, in the order of the variants of `DemandFault`; `OutOfMemory` where memory ran out.
 pub fn read(alloc: Global, bytes: &[u8]) -> Result<Demands, DemandFault>
     ensures ok { IfOk result (IsDemandsText bytes.now) }
-    ensures err { IfErr result (Refuses bytes.now) }
+    ensures err { IfErr result (RefusesDemands bytes.now) }
 {
     let value = value_of(alloc, bytes)?;
     let entries = entries_of(alloc, &value)?;

@@ -6,7 +6,7 @@ ghost use Rattle.fair_share.specs.declared.cap.Tenant.{Tenant};
 ghost use Rattle.merlin_model.specs.declared.limits.TheConstants.{MAX_RATE};
 ghost use Rattle.fair_share.specs.declared.share_text.SharesFault.TheVariants as fault;
 ghost use Rattle.fair_share.specs.Filling.{demands};
-ghost use Rattle.fair_share.specs.ShareTexts.{AreNamed, HaveNames, AreShares, bound_text, share_lines, share_words, share_line, IsShare, IsSharesText, IsSharesFault};
+ghost use Rattle.fair_share.specs.ShareTexts.{AreNamed, HaveNames, AreShares, cap_bound_text, share_lines, share_words, share_line, IsShare, IsSharesText, IsSharesFault};
 
 use crate::cap::{Cap, Tenant};
 use crate::demands::Demands;
@@ -52,11 +52,12 @@ fn rate_of(text: &[u8]) -> Option<u64>
 // The bound with which the text begins, up to the newline, and what stands behind that.
 fn read_bound<'t>(caps: &[Cap], text: &'t [u8]) -> Option<(Option<usize>, &'t [u8])>
     requires { AreNamed caps.now }
-    ensures some { IfSome result (λ r. (text.now ≡ (bound_text caps.now r.0 ++ 10 ∷ []) ++ r.1.now)
+    ensures some { IfSome result (λ r. (text.now ≡
+        (cap_bound_text caps.now r.0 ++ 10 ∷ []) ++ r.1.now)
         × MatchOption r.0 ⊤ (λ c. c < length caps.now)) }
     ensures none { IfNone result ((cap : Option ℕ) (rest : List ℕ) →
         MatchOption cap ⊤ (λ c. c < length caps.now) →
-        ¬ (text.now ≡ (bound_text caps.now cap ++ 10 ∷ []) ++ rest)) }
+        ¬ (text.now ≡ (cap_bound_text caps.now cap ++ 10 ∷ []) ++ rest)) }
 {
     if let Some(rest) = strip_front(text, b"demand\n") {
         return Some((None, rest));
@@ -94,7 +95,8 @@ fn read_lines(
 ) -> Result<Vec<Share>, SharesFault>
     requires caps { AreNamed caps.now }
     requires tenants { HaveNames tenants.now }
-    ensures ok { IfOk result (λ shares. IsSharesText (demands caps.now tenants.now) text.now shares.items) }
+    ensures ok { IfOk result (λ shares. IsSharesText
+        (demands caps.now tenants.now) text.now shares.items) }
     ensures err { IfErr result (IsSharesFault (demands caps.now tenants.now) text.now) }
 {
     let mut shares = Vec::with_capacity(alloc, tenants.len())?;
@@ -136,7 +138,7 @@ pub fn read_shares(
 // Adds the text of a bound.
 fn push_bound(caps: &[Cap], cap: Option<usize>, text: &mut Vec<u8>) -> Result<(), OutOfMemory>
     requires { MatchOption cap ⊤ (λ c. c < length caps.now) }
-    ensures { OnOk result (text.new.items ≡ text.old.items ++ bound_text caps.now cap) }
+    ensures { OnOk result (text.new.items ≡ text.old.items ++ cap_bound_text caps.now cap) }
 {
     match cap {
         None => text.extend_from_slice(b"demand")?,
@@ -176,7 +178,8 @@ fn lines_of(
     shares: &[Share],
 ) -> Result<Vec<Name>, OutOfMemory>
     requires { AreShares (demands caps.now tenants.now) shares.now }
-    ensures { IfOk result (λ lines. lines.items ≡ share_lines (demands caps.now tenants.now) shares.now) }
+    ensures { IfOk result (λ lines. lines.items ≡ share_lines
+        (demands caps.now tenants.now) shares.now) }
 {
     let mut lines = Vec::with_capacity(alloc, tenants.len())?;
     for index in 0..tenants.len() {

@@ -5,7 +5,7 @@
 ghost use Rattle.std.specs.Prelude.{◌≡◌, ◌==◌, ◌<◌, ◌+◌, ◌^◌, ℕ, ⊤, List, length, replicate, slice_index, false, if◌then◌else◌, MatchOption, IfOk};
 ghost use Rattle.std.specs.Option.{option_map_or};
 ghost use Rattle.fair_share.specs.declared.cap.Tenant.{Tenant};
-ghost use Rattle.fair_share.specs.Shares.{IsForest, HavePlaces, rates_of};
+ghost use Rattle.fair_share.specs.Shares.{IsForest, HavePlaces, share_rates};
 ghost use Rattle.fair_share.specs.Filling.{demands, AreDirect, AreUsed, AreSomeDirect};
 
 use crate::cap::{Cap, Tenant};
@@ -54,7 +54,7 @@ pub(crate) fn sum_up(caps: &[Cap], tenants: &[Tenant], shares: &[Share], sums: &
     requires places { HavePlaces caps.now tenants.now }
     requires as_many { length shares.now ≡ length tenants.now }
     requires zeros { sums.old ≡ replicate (length caps.now) 0 }
-    ensures { AreUsed (demands caps.now tenants.now) (rates_of shares.now) sums.new }
+    ensures { AreUsed (demands caps.now tenants.now) (share_rates shares.now) sums.new }
 {
     for index in 0..tenants.len() {
         let tenant = &tenants[index];
@@ -74,7 +74,7 @@ pub(crate) fn sums_of(
     requires places { HavePlaces caps.now tenants.now }
     requires as_many { length shares.now ≡ length tenants.now }
     ensures { IfOk result (λ sums.
-        AreUsed (demands caps.now tenants.now) (rates_of shares.now) sums.items) }
+        AreUsed (demands caps.now tenants.now) (share_rates shares.now) sums.items) }
 {
     let mut sums = vec![in alloc; 0; caps.len()]?;
     sum_up(caps, tenants, shares, &mut sums);

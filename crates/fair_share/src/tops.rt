@@ -1,6 +1,6 @@
 //! The greatest share beneath each cap.
 ghost use Rattle.std.specs.Prelude.{◌≡◌, length, replicate};
-ghost use Rattle.fair_share.specs.Shares.{IsForest, HavePlaces, rates_of};
+ghost use Rattle.fair_share.specs.Shares.{IsForest, HavePlaces, share_rates};
 ghost use Rattle.fair_share.specs.Filling.{demands, AreTops};
 
 use crate::cap::{Cap, Tenant};
@@ -13,7 +13,7 @@ pub(crate) fn top_all(caps: &[Cap], tenants: &[Tenant], shares: &[Share], tops: 
     requires places { HavePlaces caps.now tenants.now }
     requires as_many { length shares.now ≡ length tenants.now }
     requires zeros { tops.old ≡ replicate (length caps.now) 0 }
-    ensures { AreTops (demands caps.now tenants.now) (rates_of shares.now) tops.new }
+    ensures { AreTops (demands caps.now tenants.now) (share_rates shares.now) tops.new }
 {
     for index in 0..tenants.len() {
         let tenant = &tenants[index];

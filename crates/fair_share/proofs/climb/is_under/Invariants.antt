@@ -1,4 +1,4 @@
-use Rattle.std.proofs.Common.{◌≡◌, ◌≢◌}
+use Rattle.std.proofs.Common.{◌≢◌}
 use Rattle.fair_share.proofs.Climbing.{IsClimbing}
 use Rattle.fair_share.proofs.climb.is_under.Given as goal
 

@@ -1,7 +1,6 @@
 use Rattle.std.proofs.Common.{◌≡◌, List, ℕ, Option, None, Some, IfNone, sym, ◌∙◌, subst}
 use Rattle.serde_json.specs.View.{view}
 use Rattle.merlin_base.specs.Lexemes.{IsRate}
-use Rattle.fair_share.specs.Json.{HasText}
 use Rattle.fair_share.specs.Format.{HasRate}
 use Rattle.fair_share.proofs.entry.rate_of.Goals as goal
 

@@ -1,6 +1,5 @@
-use Rattle.std.proofs.Common.{◌≡◌, ℕ, ◌<◌, ◌≤◌, false, true, length, slice_index, refl, arith}
+use Rattle.std.proofs.Common.{◌≡◌, ◌<◌, false, true, length, refl, arith}
 use Rattle.std.proofs.lemmas.Option.{slice_get_read, slice_get_within}
-use Rattle.fair_share.specs.declared.cap.Cap.{Cap}
 use Rattle.fair_share.proofs.fill.are_within.Goals as goal
 
 pub returns-then-from-used : goal.returns-then-from-used

@@ -1,5 +1,5 @@
-use Rattle.std.proofs.Common.{◌≡◌, MatchOption, IfNone, sym, subst}
-use Rattle.fair_share.specs.Shares.{IsSound, IsFirstUnsound, IsBest, rates_of}
+use Rattle.std.proofs.Common.{◌≡◌, MatchOption, sym, subst}
+use Rattle.fair_share.specs.Shares.{IsSound, IsFirstUnsound}
 use Rattle.fair_share.specs.Filling.{demands}
 use Rattle.fair_share.specs.Kept.{demands_in}
 use Rattle.fair_share.proofs.Judging.{fair-best}

@@ -1,5 +1,5 @@
-use Rattle.std.proofs.Common.{◌≡◌, ◌<◌, Bool, true, false, MatchBool, Some, length, slice_get, get_or, refl, sym, ◌∙◌, arith, subst}
-use Rattle.fair_share.specs.Shares.{rates_of, IsUnsound}
+use Rattle.std.proofs.Common.{◌<◌, true, false, MatchBool, length, get_or, arith, subst}
+use Rattle.fair_share.specs.Shares.{share_rates, IsUnsound}
 use Rattle.fair_share.specs.Filling.{demands, IsFine}
 use Rattle.fair_share.proofs.Filling.{slice_get-at}
 use Rattle.fair_share.proofs.Judging.{all-fine, fine-more, first-unsound, line-at}
@@ -15,9 +15,9 @@ returns-then-is_unsound c =
     let within : c.loop-index.index < length c.args.shares.now = (let a = c.requires.as_many in omega arith) in
     let stands = slice_get-at c.args.tenants.now c.loop-index.index c.index-tenants-index.result lt c.index-tenants-index.is in
     let given = line-at c.args.shares.now c.loop-index.index no_share within in
-    let told : MatchBool true (IsUnsound (demands c.args.caps.now c.args.tenants.now) (rates_of c.args.shares.now) c.index-tenants-index.result (get_or c.args.shares.now c.loop-index.index no_share)) (IsFine (demands c.args.caps.now c.args.tenants.now) (rates_of c.args.shares.now) c.index-tenants-index.result (get_or c.args.shares.now c.loop-index.index no_share)) =
-    subst (λ b. MatchBool b (IsUnsound (demands c.args.caps.now c.args.tenants.now) (rates_of c.args.shares.now) c.index-tenants-index.result (get_or c.args.shares.now c.loop-index.index no_share)) (IsFine (demands c.args.caps.now c.args.tenants.now) (rates_of c.args.shares.now) c.index-tenants-index.result (get_or c.args.shares.now c.loop-index.index no_share)))
-    c.if-is_unsound.true (c.is_unsound.ensures c.args.tenants.now (rates_of c.args.shares.now) c.requires.used c.requires.tops) in
+    let told : MatchBool true (IsUnsound (demands c.args.caps.now c.args.tenants.now) (share_rates c.args.shares.now) c.index-tenants-index.result (get_or c.args.shares.now c.loop-index.index no_share)) (IsFine (demands c.args.caps.now c.args.tenants.now) (share_rates c.args.shares.now) c.index-tenants-index.result (get_or c.args.shares.now c.loop-index.index no_share)) =
+    subst (λ b. MatchBool b (IsUnsound (demands c.args.caps.now c.args.tenants.now) (share_rates c.args.shares.now) c.index-tenants-index.result (get_or c.args.shares.now c.loop-index.index no_share)) (IsFine (demands c.args.caps.now c.args.tenants.now) (share_rates c.args.shares.now) c.index-tenants-index.result (get_or c.args.shares.now c.loop-index.index no_share)))
+    c.if-is_unsound.true (c.is_unsound.ensures c.args.tenants.now (share_rates c.args.shares.now) c.requires.used c.requires.tops) in
     first-unsound (demands c.args.caps.now c.args.tenants.now) c.args.shares.now c.loop-index.index c.index-tenants-index.result (get_or c.args.shares.now c.loop-index.index no_share) c.loop-index.invariant stands given told
 
 pub loop-index-preserved : goal.loop-index-preserved
@@ -26,9 +26,9 @@ loop-index-preserved c =
     let within : c.loop-index.index < length c.args.shares.now = (let a = c.requires.as_many in omega arith) in
     let stands = slice_get-at c.args.tenants.now c.loop-index.index c.index-tenants-index.result lt c.index-tenants-index.is in
     let given = line-at c.args.shares.now c.loop-index.index no_share within in
-    let told : MatchBool false (IsUnsound (demands c.args.caps.now c.args.tenants.now) (rates_of c.args.shares.now) c.index-tenants-index.result (get_or c.args.shares.now c.loop-index.index no_share)) (IsFine (demands c.args.caps.now c.args.tenants.now) (rates_of c.args.shares.now) c.index-tenants-index.result (get_or c.args.shares.now c.loop-index.index no_share)) =
-    subst (λ b. MatchBool b (IsUnsound (demands c.args.caps.now c.args.tenants.now) (rates_of c.args.shares.now) c.index-tenants-index.result (get_or c.args.shares.now c.loop-index.index no_share)) (IsFine (demands c.args.caps.now c.args.tenants.now) (rates_of c.args.shares.now) c.index-tenants-index.result (get_or c.args.shares.now c.loop-index.index no_share)))
-    c.if-is_unsound.false (c.is_unsound.ensures c.args.tenants.now (rates_of c.args.shares.now) c.requires.used c.requires.tops) in
+    let told : MatchBool false (IsUnsound (demands c.args.caps.now c.args.tenants.now) (share_rates c.args.shares.now) c.index-tenants-index.result (get_or c.args.shares.now c.loop-index.index no_share)) (IsFine (demands c.args.caps.now c.args.tenants.now) (share_rates c.args.shares.now) c.index-tenants-index.result (get_or c.args.shares.now c.loop-index.index no_share)) =
+    subst (λ b. MatchBool b (IsUnsound (demands c.args.caps.now c.args.tenants.now) (share_rates c.args.shares.now) c.index-tenants-index.result (get_or c.args.shares.now c.loop-index.index no_share)) (IsFine (demands c.args.caps.now c.args.tenants.now) (share_rates c.args.shares.now) c.index-tenants-index.result (get_or c.args.shares.now c.loop-index.index no_share)))
+    c.if-is_unsound.false (c.is_unsound.ensures c.args.tenants.now (share_rates c.args.shares.now) c.requires.used c.requires.tops) in
     fine-more (demands c.args.caps.now c.args.tenants.now) c.args.shares.now c.loop-index.index c.index-tenants-index.result (get_or c.args.shares.now c.loop-index.index no_share) c.loop-index.invariant stands given told
 
 pub returns : goal.returns

@@ -1,4 +1,4 @@
-use Rattle.std.proofs.Common.{◌≡◌, ◌≤◌, ◌+◌, MatchOption, unwrap_or, length, slice_index, refl, sym, ◌∙◌, ap, subst}
+use Rattle.std.proofs.Common.{◌≡◌, MatchOption, unwrap_or, length, refl, sym, ◌∙◌, ap, subst}
 use Rattle.std.proofs.lemmas.Option.{slice_get_read}
 use Rattle.fair_share.specs.Filling.{IsFullAt}
 use Rattle.fair_share.proofs.judge.is_right.Goals as goal

@@ -1,6 +1,6 @@
 use Rattle.std.proofs.Common.{◌≡◌, inl, inr, Bool, true, false, not, MatchBool, arith, sym, ◌∙◌}
 use Rattle.fair_share.specs.Shares.{IsUnsound}
-use Rattle.fair_share.specs.Filling.{demands, HasRoom, IsBlocked, IsFine}
+use Rattle.fair_share.specs.Filling.{demands, HaveRoomAbove, IsBlocked, IsFine}
 use Rattle.fair_share.proofs.Judging.{fine, wrong-line, passed-cap}
 use Rattle.fair_share.proofs.judge.is_unsound.Goals as goal
 
@@ -20,7 +20,7 @@ returns-then-not-is_right c tenants shares are top =
 pub returns : goal.returns
 returns c tenants shares are top = by c.has_room.result c.has_room.ensures
   where
-    by : (b : Bool) → MatchBool b (HasRoom c.args.caps.now c.args.tenant.now.under c.args.used.now 0) (IsBlocked c.args.caps.now c.args.tenant.now.under c.args.used.now 0) →
+    by : (b : Bool) → MatchBool b (HaveRoomAbove c.args.caps.now c.args.tenant.now.under c.args.used.now 0) (IsBlocked c.args.caps.now c.args.tenant.now.under c.args.used.now 0) →
         MatchBool (not b) (IsUnsound (demands c.args.caps.now tenants) shares c.args.tenant.now c.args.share) (IsFine (demands c.args.caps.now tenants) shares c.args.tenant.now c.args.share)
     by true room = fine (demands c.args.caps.now tenants) shares c.args.used.now c.args.tops.now are top c.args.tenant.now c.args.share (c.is_right.ensures.0 c.if-not-is_right.false) (let f = c.if-tenant-share.false in omega arith) room
     by false blocked = passed-cap (demands c.args.caps.now tenants) shares c.args.used.now c.args.tops.now are top c.args.tenant.now c.args.share blocked

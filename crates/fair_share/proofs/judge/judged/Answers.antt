@@ -1,4 +1,4 @@
-use Rattle.std.proofs.Common.{◌≡◌, ℕ, zero, suc, ◌≤◌, List, [], ◌∷◌, take, replicate, length, refl, ap, arith}
+use Rattle.std.proofs.Common.{◌≡◌, ℕ, zero, suc, ◌≤◌, ◌∷◌, take, replicate, length, refl, ap, arith}
 use Rattle.fair_share.proofs.judge.judged.Goals as goal
 
 take-zeros : (n m : ℕ) → n ≤ m → take n (replicate m zero) ≡ replicate n zero

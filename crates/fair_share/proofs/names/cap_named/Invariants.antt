@@ -1,4 +1,4 @@
-use Rattle.std.proofs.Common.{◌≡◌, ◌≢◌, ℕ, ◌<◌, map, Some, slice_get}
+use Rattle.std.proofs.Common.{◌≢◌, ℕ, ◌<◌, map, Some, slice_get}
 use Rattle.fair_share.proofs.names.cap_named.Given as goal
 
 abbrev pub invariant-loop-index : goal.invariant-loop-index

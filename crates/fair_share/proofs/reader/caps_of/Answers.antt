@@ -1,8 +1,8 @@
-use Rattle.std.proofs.Common.{◌≡◌, List, map, refl, sym, subst, arith}
+use Rattle.std.proofs.Common.{List, map, refl, sym, subst, arith}
 use Rattle.std.proofs.lemmas.Result.{err_from_is_err_and}
 use Rattle.fair_share.specs.declared.cap.Cap.{Cap}
 use Rattle.fair_share.specs.Reading.{IsPlaceOf}
-use Rattle.fair_share.proofs.Entries.{unknown-weaker}
+use Rattle.fair_share.proofs.NamedRates.{unknown-weaker}
 use Rattle.fair_share.proofs.Numbering.{caps-push, first-unknown-cap}
 use Rattle.fair_share.proofs.reader.caps_of.Goals as goal
 

@@ -1,7 +1,7 @@
 use Rattle.std.proofs.Common.{codes}
 use Rattle.std.proofs.lemmas.Result.{IfOk-weaker, IfErr-weaker}
 use Rattle.serde_json.specs.View.{view}
-use Rattle.fair_share.proofs.Entries.{lawful, refuses}
+use Rattle.fair_share.proofs.NamedRates.{lawful, refuses}
 use Rattle.fair_share.proofs.reader.read.Goals as goal
 
 pub numbered-requires : goal.numbered-requires

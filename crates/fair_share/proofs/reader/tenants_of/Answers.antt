@@ -1,6 +1,6 @@
-use Rattle.std.proofs.Common.{◌≡◌, List, map, refl, sym, subst, arith}
+use Rattle.std.proofs.Common.{map, refl, arith}
 use Rattle.std.proofs.lemmas.Result.{err_from_is_err_and}
-use Rattle.fair_share.proofs.Entries.{unknown-weaker}
+use Rattle.fair_share.proofs.NamedRates.{unknown-weaker}
 use Rattle.fair_share.proofs.Numbering.{tenants-push, first-unknown-tenant}
 use Rattle.fair_share.proofs.reader.tenants_of.Goals as goal
 

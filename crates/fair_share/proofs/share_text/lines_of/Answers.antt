@@ -1,8 +1,5 @@
-use Rattle.std.proofs.Common.{◌≡◌, ℕ, ◌+◌, ◌<◌, ◌++◌, ◌∷◌, [], length, take, map, get_or, sym, ◌∙◌, ap, ap₂, subst, arith}
-use Rattle.std.specs.List.{zip}
-use Rattle.fair_share.specs.ShareTexts.{share_line, IsShare}
+use Rattle.std.proofs.Common.{◌<◌, length, arith}
 use Rattle.fair_share.proofs.Printing.{shares-count, share-is, lines-more, lines-all}
-use Rattle.fair_share.proofs.Rates.{no_share}
 use Rattle.fair_share.proofs.share_text.lines_of.Goals as goal
 
 pub bounds-shares-index : goal.bounds-shares-index

@@ -1,4 +1,4 @@
-use Rattle.std.proofs.Common.{◌≡◌, ◌++◌, ◌∙◌, ap}
+use Rattle.std.proofs.Common.{◌++◌, ◌∙◌, ap}
 use Rattle.fair_share.proofs.ShareLines.{no-blank, no-unit, no-rate, no-kbps, no-bound}
 use Rattle.fair_share.proofs.share_text.read_share.Goals as goal
 

@@ -1,7 +1,5 @@
-use Rattle.std.proofs.Common.{◌≡◌, ℕ, suc, ◌+◌, ◌-◌, ◌*◌, ◌≤◌, ◌<◌, Some, None, List, length, slice_get, sym, subst, length-set, get_or, set, ◌∙◌, refl, arith}
+use Rattle.std.proofs.Common.{◌≡◌, suc, ◌+◌, ◌-◌, length, subst, length-set, get_or, ◌∙◌, refl, arith}
 use Rattle.std.proofs.lemmas.Option.{slice_get_read}
-use Rattle.fair_share.specs.declared.cap.Tenant.{Tenant}
-use Rattle.fair_share.specs.Filling.{AreDirect}
 use Rattle.fair_share.proofs.Pouring.{HasCome, comes, come-none, come-some, come-small, come-last, above-of, above-none}
 use Rattle.fair_share.proofs.sums.pour.Goals as goal
 

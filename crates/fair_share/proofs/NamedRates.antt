@@ -1,22 +1,20 @@
 -- Arrays of entries, and the first that is wrong.
-use Rattle.std.proofs.Common.{◌≡◌, ℕ, zero, suc, ◌+◌, ◌≤◌, ◌<◌, ◌⊎◌, inl, inr, List, [], ◌∷◌, ◌++◌, length, map, take, slice_get, get_or, option_map, Option, None, Some, unwrap_or, MatchOption, refl, sym, ◌∙◌, ap, subst, arith}
+use Rattle.std.proofs.Common.{◌≡◌, ℕ, zero, suc, ◌+◌, ◌≤◌, ◌<◌, inr, List, [], ◌∷◌, ◌++◌, length, map, take, slice_get, get_or, Some, unwrap_or, refl, sym, ◌∙◌, ap, subst, arith}
 use Rattle.std.specs.List.{AllByRecursion, AllZip}
-use Rattle.std.proofs.lemmas.List.{take_more, take_all}
-use Rattle.std.proofs.lemmas.Option.{slice_get_read, slice_get_within}
+use Rattle.std.proofs.lemmas.List.{take_all}
 use Rattle.serde_json.specs.Data.{Data}
-use Rattle.serde_json.specs.View.{items_of}
 use Rattle.fair_share.specs.declared.fault.DemandFault.{DemandFault}
 use Rattle.fair_share.specs.declared.fault.DemandFault.TheVariants.{Json, Shape, TooLarge, DuplicateName, UnknownCap, OutOfMemory}
-use Rattle.fair_share.specs.declared.entry.Entry.{Entry}
-use Rattle.fair_share.specs.declared.entry.Part.{Part}
+use Rattle.fair_share.specs.declared.entry.NamedRate.{NamedRate}
+use Rattle.fair_share.specs.declared.entry.ElementPart.{ElementPart}
 use Rattle.fair_share.specs.declared.entry.PartFault.{PartFault}
 use Rattle.fair_share.specs.declared.entry.PartFault.TheVariants as part
-use Rattle.fair_share.specs.Json.{HasItems}
+use Rattle.fair_share.specs.Json.{HasArray}
 use Rattle.fair_share.specs.Format.{IsEntryOf, HasEntries}
-use Rattle.fair_share.specs.Shape.{IsWrongPart, HasWrongElement, element_words, IsWrongArray}
-use Rattle.fair_share.specs.declared.entry.Entries.{Entries}
-use Rattle.fair_share.specs.Reading.{AreWritten, AreRefused, Refuses}
-use Rattle.fair_share.specs.Failing.{FailsAs, FailsAsPart, FailsAsUnknown, IsLawful}
+use Rattle.fair_share.specs.Shape.{IsWrongPart, element_words, IsWrongArray}
+use Rattle.fair_share.specs.declared.entry.NamedRates.{NamedRates}
+use Rattle.fair_share.specs.Reading.{AreWritten, AreRefused, RefusesDemands}
+use Rattle.fair_share.specs.Failing.{FailsAs, FailsAsPart, FailsAsUnknown, IsLawfulRate}
 
 pub fails-weaker : (P Q : List ℕ → Type 0) → ((words : List ℕ) → P words → Q words) → (fault : DemandFault) → FailsAs P fault → FailsAs Q fault
 fails-weaker P Q f Json h = h
@@ -53,12 +51,12 @@ viewed-more view vs i v l e = by vs i l e
     by (u ∷ us) zero l e = ap (λ w. view w ∷ []) (sym e)
     by (u ∷ us) (suc k) l e = let one : suc k + 1 ≡ suc (k + 1) = omega arith in ap (λ n. take n (view u ∷ map view us)) one ∙ ap (λ z. view u ∷ z) (by us k (omega arith) e)
 
-module _ {V : Type 0} (view : V → Data) (key rate_key : List ℕ) (d : Data) (vs : List V) (has : HasItems key d (map view vs)) where
-  pub one-more-entry : (entries : List Entry) (i : ℕ) (v : V) (entry : Entry) → i < length vs → v ≡ get_or vs i v → AllZip (IsEntryOf rate_key) (take i (map view vs)) entries → IsEntryOf rate_key (view v) entry →
+module _ {V : Type 0} (view : V → Data) (key rate_key : List ℕ) (d : Data) (vs : List V) (has : HasArray key d (map view vs)) where
+  pub one-more-entry : (entries : List NamedRate) (i : ℕ) (v : V) (entry : NamedRate) → i < length vs → v ≡ get_or vs i v → AllZip (IsEntryOf rate_key) (take i (map view vs)) entries → IsEntryOf rate_key (view v) entry →
       AllZip (IsEntryOf rate_key) (take (i + 1) (map view vs)) (entries ++ entry ∷ [])
   one-more-entry entries i v entry l e z is = subst (λ (front : List Data). AllZip (IsEntryOf rate_key) front (entries ++ entry ∷ [])) (sym (viewed-more view vs i v l e)) (zip-push (IsEntryOf rate_key) (take i (map view vs)) entries (view v) entry z is)
 
-  pub wrong-entry : (entries : List Entry) (i : ℕ) (v : V) (part : Part) (what : List ℕ) → i < length vs → v ≡ get_or vs i v → AllZip (IsEntryOf rate_key) (take i (map view vs)) entries → IsWrongPart rate_key (view v) part →
+  pub wrong-entry : (entries : List NamedRate) (i : ℕ) (v : V) (part : ElementPart) (what : List ℕ) → i < length vs → v ≡ get_or vs i v → AllZip (IsEntryOf rate_key) (take i (map view vs)) entries → IsWrongPart rate_key (view v) part →
       what ≡ element_words key rate_key i part → IsWrongArray key rate_key d what
   wrong-entry entries i v part what l e z wrong words = inr (
     map view vs,
@@ -74,7 +72,7 @@ module _ {V : Type 0} (view : V → Data) (key rate_key : List ℕ) (d : Data) (
     },
   )
 
-  pub all-entries : (entries : List Entry) (i : ℕ) → length vs ≤ i → AllZip (IsEntryOf rate_key) (take i (map view vs)) entries → HasEntries key rate_key d entries
+  pub all-entries : (entries : List NamedRate) (i : ℕ) → length vs ≤ i → AllZip (IsEntryOf rate_key) (take i (map view vs)) entries → HasEntries key rate_key d entries
   all-entries entries i past z = (map view vs, has, subst (λ (front : List Data). AllZip (IsEntryOf rate_key) front entries) (take_all i (map view vs) (let s = viewed-long vs in omega arith)) z)
     where
       viewed-long : (us : List V) → length (map view us) ≡ length us
@@ -82,10 +80,10 @@ module _ {V : Type 0} (view : V → Data) (key rate_key : List ℕ) (d : Data) (
       viewed-long (u ∷ us) = ap suc (viewed-long us)
 
 -- entries have names, and rates within the limit
-pub lawful : (key rate_key : List ℕ) (d : Data) (entries : List Entry) → HasEntries key rate_key d entries → AllByRecursion IsLawful entries
+pub lawful : (key rate_key : List ℕ) (d : Data) (entries : List NamedRate) → HasEntries key rate_key d entries → AllByRecursion IsLawfulRate entries
 lawful key rate_key d entries has = by has.0 entries has.2
   where
-    by : (items : List Data) (es : List Entry) → AllZip (IsEntryOf rate_key) items es → AllByRecursion IsLawful es
+    by : (items : List Data) (es : List NamedRate) → AllZip (IsEntryOf rate_key) items es → AllByRecursion IsLawfulRate es
     by [] [] z = tt
     by [] (e ∷ es) z = absurd z
     by (i ∷ items) [] z = absurd z
@@ -100,7 +98,7 @@ unknown-weaker P Q f (UnknownCap name) h = f name h
 unknown-weaker P Q f OutOfMemory h = h
 
 -- what entries are refused for, their bytes are refused for
-pub refuses : (bytes : List ℕ) (entries : Entries) → AreWritten bytes entries → (fault : DemandFault) → AreRefused entries fault → Refuses bytes fault
+pub refuses : (bytes : List ℕ) (entries : NamedRates) → AreWritten bytes entries → (fault : DemandFault) → AreRefused entries fault → RefusesDemands bytes fault
 refuses bytes entries w Json h = absurd h
 refuses bytes entries w (Shape what) h = absurd h
 refuses bytes entries w (TooLarge what count) h = (entries, w, h)
@@ -108,5 +106,5 @@ refuses bytes entries w (DuplicateName name) h = (entries, w, h)
 refuses bytes entries w (UnknownCap name) h = (entries, w, h)
 refuses bytes entries w OutOfMemory h = tt
 
-pub wrong-part : (P : Part → Type 0) (fault : PartFault) (which : Part) → fault ≡ part.Wrong which → FailsAsPart P fault → P which
+pub wrong-part : (P : ElementPart → Type 0) (fault : PartFault) (which : ElementPart) → fault ≡ part.Wrong which → FailsAsPart P fault → P which
 wrong-part P fault which e h = subst (λ (f : PartFault). FailsAsPart P f) e h

@@ -1,0 +1,10 @@
+pub mod Shares
+pub mod Filling
+pub mod Examples
+pub mod Json
+pub mod Format
+pub mod Shape
+pub mod Reading
+pub mod Failing
+pub mod Kept
+pub mod ShareTexts

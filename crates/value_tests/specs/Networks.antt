@@ -20,8 +20,8 @@ use Rattle.merlin_model.specs.Networks.{Network}
 abbrev pub location : List ℕ → LocationKind → Location
 location name kind = record { name = name; kind = kind }
 
-abbrev pub link : ℕ → ℕ → ℕ → ℕ → Link
-link a aport b bport =
+abbrev pub gigabit_link : ℕ → ℕ → ℕ → ℕ → Link
+gigabit_link a aport b bport =
     record { a = a; aport = aport; b = b; bport = bport; capacity = 1000000; back = 1000000; weight = 1 }
 
 -- the addresses 00:00:00:00:00:01 and 10.0.0.1
@@ -36,7 +36,7 @@ second = record { eth = 2; ip = 167772162 }
 abbrev pub one_switch : Network
 one_switch = record {
   locations = location (codes "h1") (Host first) ∷ location (codes "h2") (Host second) ∷ location (codes "s1") Switch ∷ [];
-  links = link 0 1 2 1 ∷ link 1 1 2 2 ∷ [];
+  links = gigabit_link 0 1 2 1 ∷ gigabit_link 1 1 2 2 ∷ [];
   functions = [];
 }
 
@@ -46,11 +46,11 @@ two_switches = record {
   locations =
       location (codes "h1") (Host first) ∷ location (codes "h2") (Host second)
       ∷ location (codes "s1") Switch ∷ location (codes "s2") Switch ∷ [];
-  links = link 0 1 2 1 ∷ link 1 1 2 2 ∷ link 3 1 2 3 ∷ [];
+  links = gigabit_link 0 1 2 1 ∷ gigabit_link 1 1 2 2 ∷ gigabit_link 3 1 2 3 ∷ [];
   functions = [];
 }
 
--- a match of the link alone: the port, the two Ethernet addresses and the tag, where they are given
+-- a match of the gigabit_link alone: the port, the two Ethernet addresses and the tag, where they are given
 abbrev pub link_match : Option ℕ → Option ℕ → Option ℕ → Option Vlan → Match
 link_match in_port dl_src dl_dst dl_vlan = record {
   in_port = in_port;

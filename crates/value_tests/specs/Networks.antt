@@ -50,7 +50,7 @@ two_switches = record {
   functions = [];
 }
 
--- a match of the gigabit_link alone: the port, the two Ethernet addresses and the tag, where they are given
+-- a match of the link alone: the port, the two Ethernet addresses and the tag, where they are given
 abbrev pub link_match : Option ℕ → Option ℕ → Option ℕ → Option Vlan → Match
 link_match in_port dl_src dl_dst dl_vlan = record {
   in_port = in_port;

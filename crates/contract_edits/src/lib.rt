@@ -5,4 +5,7 @@
 #![tactic(auto)]
 
 pub mod automata;
+pub mod configs;
+pub mod files;
+pub mod policies;
 pub mod topologies;

@@ -39,7 +39,7 @@ fn word_of(
 /// second; else the least walk that is not: of those with the fewest symbols the first one by the
 /// numbers of its symbols, position by position. The automata go by the numbers of the symbols in
 /// the list, which has each symbol of the network once.
-pub fn least_stray_walk(
+pub fn included(
     alloc: Global,
     a: &Automaton,
     b: &Automaton,

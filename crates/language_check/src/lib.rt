@@ -6,5 +6,5 @@ mod inclusion;
 mod search;
 mod ways;
 
-pub use inclusion::least_stray_walk;
+pub use inclusion::included;
 pub use merlin_model::OutOfMemory;

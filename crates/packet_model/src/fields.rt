@@ -180,7 +180,7 @@ impl Packet {
 }
 
 /// Whether the packet is proper from one host to another: it bears both source addresses of the one and both destination addresses of the other.
-pub fn is_proper(packet: &Packet, src: HostAddress, dst: HostAddress) -> bool
+pub fn proper(packet: &Packet, src: HostAddress, dst: HostAddress) -> bool
     ensures between { IsTrue result ↔ IsBetween packet.now src dst }
     ensures in_network { TellsProper result packet.now src dst }
 {

@@ -1,13 +1,9 @@
 -- A small result in all its parts, and its text.
-use Rattle.std.specs.Prelude.{ℕ, List, [], ◌∷◌, map, None, Some, pos, negsuc, false, codes}
-use Rattle.merlin_model.specs.declared.network.LocationKind.{LocationKind}
+use Rattle.std.specs.Prelude.{ℕ, List, [], ◌∷◌, map, Some, pos, negsuc, codes}
 use Rattle.merlin_model.specs.declared.network.LocationKind.TheVariants.{Host, Switch, Middlebox}
-use Rattle.merlin_model.specs.declared.network.Location.{Location}
 use Rattle.merlin_model.specs.declared.network.FnDecl.{FnDecl}
-use Rattle.merlin_model.specs.declared.policy.Symbol.{Symbol}
 use Rattle.merlin_model.specs.declared.policy.Objective.TheVariants as objective
 use Rattle.merlin_model.specs.declared.policy.Value.TheVariants as value
-use Rattle.merlin_model.specs.declared.config.Match.{Match}
 use Rattle.merlin_model.specs.declared.config.Config.{Config}
 use Rattle.merlin_model.specs.declared.config.HostLine.TheVariants as host_line
 use Rattle.merlin_model.specs.declared.certificate.Tree.{Tree, Leaf, Split}
@@ -15,9 +11,7 @@ use Rattle.merlin_model.specs.Networks.{Network}
 use Rattle.merlin_model.specs.Words.{at}
 use Rattle.config_text.specs.Words.{line}
 use Rattle.config_text.specs.Result.{result_lines}
-
-abbrev pub location : List ℕ → LocationKind → Location
-location name kind = record { name = name; kind = kind }
+use Rattle.value_tests.specs.Networks.{location, any}
 
 abbrev pub function : List ℕ → FnDecl
 function name = record { name = name; places = 2 ∷ []; set = [] }
@@ -29,20 +23,6 @@ net = record {
       ∷ location (codes "m1") Middlebox ∷ location (codes "s1") Switch ∷ [];
   links = [];
   functions = function (codes "dpi") ∷ function (codes "nat") ∷ [];
-}
-
-abbrev pub any : Match
-any = record {
-  in_port = None;
-  dl_src = None;
-  dl_dst = None;
-  dl_vlan = None;
-  dl_type = false;
-  nw_proto = None;
-  nw_src = None;
-  nw_dst = None;
-  tp_src = None;
-  tp_dst = None;
 }
 
 abbrev pub config : Config

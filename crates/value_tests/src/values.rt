@@ -1,42 +1,30 @@
-//! Predicates of no parts, sums past 64 bits, and addresses past 48 bits, which no text stands for.
+//! Predicates of no parts, sums past 64 bits, and addresses past 48 bits.
 
-use packet_model::packet_of;
-use predicate_logic::{Pred, holds};
-use rate_formula::{Bound, Formula, Part, Term, meets};
-use sqlite_items::Items;
-use std::test::Fail;
+ghost use Rattle.std.specs.Prelude.{ℕ, ◌≡◌, ◌*◌, ◌-◌, ◌^◌, [], ◌∷◌, true, false};
+ghost use Rattle.merlin_model.specs.Packets.{Packet, IsPacket};
+ghost use Rattle.merlin_model.specs.Predicates.{holds};
+ghost use Rattle.merlin_model.specs.declared.policy.Pred.{All, AnyOf};
+ghost use Rattle.merlin_model.specs.declared.policy.Bound.TheVariants.{Max};
+ghost use Rattle.merlin_model.specs.declared.policy.Part.TheVariants.{Constant};
+ghost use Rattle.merlin_model.specs.Rates.{total_of};
 
-#[test]
-fn all_and_any_of_no_predicate(rt: HostRuntime) -> Result<(), Fail> {
-    let alloc = rt.alloc();
-    let packet = packet_of(1, 2, 3, 4, 6, 1000, 80).ok_or("no packet")?;
-    assert!(rt; holds(&Pred::All(Items::new(alloc)), &packet));
-    assert!(rt; !holds(&Pred::AnyOf(Items::new(alloc)), &packet));
-    Ok(())
-}
+/// All of no predicate hold, and none of no predicate does.
+pub fn all_and_any_of_no_predicate()
+    ensures all { (packet : Packet) → holds (All []) packet ≡ true }
+    ensures any { (packet : Packet) → holds (AnyOf []) packet ≡ false }
+{}
 
-#[test]
-fn a_sum_may_pass_64_bits(rt: HostRuntime) -> Result<(), Fail> {
-    let alloc = rt.alloc();
-    let largest = [Part::Constant(u64::MAX), Part::Constant(u64::MAX)];
-    let mut parts = Items::new(alloc);
-    for part in largest {
-        parts.push(part)?;
-    }
-    let mut terms = Items::new(alloc);
-    terms.push(Term {
-        bound: Bound::Max,
-        parts,
-        rate: u64::MAX,
-    })?;
-    assert!(rt; !meets(&Formula { terms }, &[], &[]));
-    Ok(())
-}
+/// A sum is counted whole, also past 64 bits.
+pub fn a_sum_may_pass_64_bits()
+    ensures { (usage : _) → total_of usage (record {
+      bound = Max;
+      parts = Constant (2 ^ 64 - 1) ∷ Constant (2 ^ 64 - 1) ∷ [];
+      rate = 2 ^ 64 - 1;
+    }) ≡ 2 * (2 ^ 64 - 1) }
+{}
 
-#[test]
-fn an_address_has_48_bits(rt: HostRuntime) {
-    let last = (1 << 48) - 1;
-    assert!(rt; packet_of(last, last, 1, 2, 6, 1, 2).is_some());
-    assert!(rt; packet_of(last + 1, last, 1, 2, 6, 1, 2).is_none());
-    assert!(rt; packet_of(last, last + 1, 1, 2, 6, 1, 2).is_none());
-}
+/// An Ethernet address has 48 bits.
+pub fn an_address_has_48_bits()
+    ensures source { (packet : Packet) → packet.eth_src ≡ 2 ^ 48 → ¬ IsPacket packet }
+    ensures destination { (packet : Packet) → packet.eth_dst ≡ 2 ^ 48 → ¬ IsPacket packet }
+{}

@@ -1,13 +1,12 @@
 //! What commands answer.
 
+use crate::lines::Lines;
+use crate::policies::Asked;
 use crate::store::{Store, content, memory};
-use crate::texts::{parted, text_of};
-use crate::{
-    automata, deliveries, networks, outside, packets, policies, rates, sizes, tokens, traffic,
-    trees,
-};
+use crate::texts::parted;
+use crate::{deliveries, networks, outside, packets, policies, tokens, trees};
 use merlin::run;
-use merlin_base::{MemorySink, OutOfMemory};
+use merlin_base::{MemoryFiles, MemorySink, OutOfMemory};
 use packet_model::Packet;
 use std::alloc::Global;
 use topology::FnDecl;
@@ -23,6 +22,57 @@ fn words_of(alloc: Global, line: &str) -> Result<Vec<String>, OutOfMemory> {
     Ok(words)
 }
 
+// What the program answers to words over files, and what it hands to a sink.
+fn run_words(
+    alloc: Global,
+    words: &[String],
+    files: &mut MemoryFiles,
+    sink: &mut MemorySink,
+    out: &mut Lines,
+) {
+    let status = run(
+        alloc,
+        words,
+        files,
+        sink,
+        |_decl: &FnDecl, packet: Packet| packet,
+    );
+    out.add_number(u64::from(status.code()));
+    out.add("\n");
+    out.add_bytes(sink.taken());
+}
+
+// The same on a sink whose calls of these numbers fail.
+fn run_on_sink(
+    alloc: Global,
+    words: &[String],
+    files: &mut MemoryFiles,
+    failing_writes: &[u64],
+    out: &mut Lines,
+) {
+    match Vec::from_slice(alloc, failing_writes) {
+        Ok(failing) => {
+            let mut sink = MemorySink::new(alloc, failing);
+            run_words(alloc, words, files, &mut sink, out);
+        }
+        Err(_) => out.cut(),
+    }
+}
+
+// The same of the words of a line.
+fn run_line(
+    alloc: Global,
+    line: &str,
+    files: &mut MemoryFiles,
+    failing_writes: &[u64],
+    out: &mut Lines,
+) {
+    match words_of(alloc, line) {
+        Ok(words) => run_on_sink(alloc, &words, files, failing_writes, out),
+        Err(_) => out.cut(),
+    }
+}
+
 // What the program answers to the words of a line. The calls whose numbers are listed fail.
 fn run_program(
     alloc: Global,
@@ -30,20 +80,12 @@ fn run_program(
     store: &Store,
     failing_reads: &[u64],
     failing_writes: &[u64],
-) -> Result<String, OutOfMemory> {
-    let words = words_of(alloc, line)?;
-    let mut files = memory(alloc, store, failing_reads)?;
-    let mut out = MemorySink::new(alloc, Vec::from_slice(alloc, failing_writes)?);
-    let status = run(
-        alloc,
-        &words,
-        &mut files,
-        &mut out,
-        |_decl: &FnDecl, packet: Packet| packet,
-    );
-    let text = text_of(out.taken());
-    let code = status.code();
-    Ok(format!(in alloc; "{code}\n{text}")?)
+    out: &mut Lines,
+) {
+    match memory(alloc, store, failing_reads) {
+        Ok(mut files) => run_line(alloc, line, &mut files, failing_writes, out),
+        Err(_) => out.cut(),
+    }
 }
 
 /// The status of a command as a line, and then what it writes. A command is one of the library calls below, or else the words of the program.
@@ -53,26 +95,27 @@ pub fn answer_to(
     store: &Store,
     failing_reads: &[u64],
     failing_writes: &[u64],
-) -> Result<String, OutOfMemory> {
+    out: &mut Lines,
+) {
     let (command, rest) = parted(line);
     match command {
-        "read" => outside::answer_to(alloc, rest, store, failing_reads),
-        "tokens" => tokens::answer_to(alloc, content(store, rest)),
-        "packet" => packets::reading(alloc, rest),
-        "set" => packets::setting(alloc, rest),
-        "proper" => packets::properness(alloc, rest, store),
-        "policy" => policies::answer_to(alloc, content(store, rest)),
-        "size" => sizes::answer_to(alloc, content(store, rest)),
-        "statement" => policies::statement(alloc, rest, store),
-        "holds" => traffic::predicates(alloc, rest, store),
-        "meets" => traffic::formula(alloc, rest, store),
-        "rates" => rates::answer_to(alloc, content(store, rest)),
-        "automaton" => automata::table(alloc, rest, store),
-        "states" => automata::count(alloc, rest, store),
-        "accepts" => automata::words(alloc, rest, store),
-        "topology" => networks::answer_to(alloc, content(store, rest)),
-        "delivery" => deliveries::answer_to(alloc, rest, store),
-        "tree" => trees::answer_to(alloc, rest, store),
-        _ => run_program(alloc, line, store, failing_reads, failing_writes),
+        "read" => outside::answer_to(alloc, rest, store, failing_reads, out),
+        "tokens" => tokens::answer_to(alloc, content(store, rest), out),
+        "packet" => packets::reading(alloc, rest, out),
+        "set" => packets::setting(alloc, rest, out),
+        "proper" => networks::answer_to(alloc, rest, store, networks::Asked::Proper, out),
+        "policy" => policies::answer_to(alloc, rest, store, Asked::Whole, out),
+        "size" => policies::answer_to(alloc, rest, store, Asked::Size, out),
+        "statement" => policies::answer_to(alloc, rest, store, Asked::Statement, out),
+        "holds" => policies::answer_to(alloc, rest, store, Asked::Holds, out),
+        "meets" => policies::answer_to(alloc, rest, store, Asked::Meets, out),
+        "rates" => policies::answer_to(alloc, rest, store, Asked::Rates, out),
+        "automaton" => policies::answer_to(alloc, rest, store, Asked::Table, out),
+        "states" => policies::answer_to(alloc, rest, store, Asked::States, out),
+        "accepts" => policies::answer_to(alloc, rest, store, Asked::Accepts, out),
+        "topology" => networks::answer_to(alloc, rest, store, networks::Asked::Whole, out),
+        "delivery" => deliveries::answer_to(alloc, rest, store, out),
+        "tree" => trees::answer_to(alloc, rest, store, out),
+        _ => run_program(alloc, line, store, failing_reads, failing_writes, out),
     }
 }

@@ -1,150 +1,158 @@
-//! Automata of paths over named symbols.
+//! Automata of paths over named symbols. A name of a list of symbols such as `m1` is a location, and `m1:dpi` is that location, which stands in the
+//! list too, with the function dpi that runs there. A location's number is its place, and a function's that of the first name which it stands in.
 
-use crate::policies::fault_answer;
+use crate::lines::Lines;
+use crate::policies::Asked;
 use crate::store::{Store, content};
-use crate::texts::{answer_of, parted, text_of, verdict};
+use crate::texts::{parted, text_of, verdict};
 use merlin_base::OutOfMemory;
 use merlin_model::policy::{Path, Symbol};
 use path_automaton::{Automaton, AutomatonFault, build};
 use policy_grammar::written::RawPath;
-use policy_parser::{Policy, parse};
+use policy_parser::Policy;
 use sqlite_items::{Boxed, Items};
 use std::alloc::Global;
 
-/// What the names of a list stand for. `m1` is a location, and `m1:dpi` the location m1 with the function dpi that runs there; both are numbered as
-/// they come.
-#[derive(Drop)]
-struct Alphabet {
-    locations: Vec<String>,
-    functions: Vec<String>,
-    symbols: Vec<Symbol>,
+// The location of a symbol's name, and its function, which is empty where it has none.
+fn halves(word: &str) -> (&str, &str) {
+    word.split_once(':').unwrap_or((word, ""))
 }
 
-// The number of a name among these.
-fn number_among(names: &[String], name: &str) -> Option<usize> {
-    names.iter().position(|other| other.as_str() == name)
-}
-
-// The number of a name, which is added where it is new.
-fn number_of(alloc: Global, names: &mut Vec<String>, name: &str) -> Result<usize, OutOfMemory> {
-    if let Some(number) = number_among(names, name) {
-        return Ok(number);
+// The place of a name in a list of symbols.
+fn place_of(symbols: &str, name: &str) -> Option<usize> {
+    for (place, word) in symbols.split(' ').enumerate() {
+        if word == name {
+            return Some(place);
+        }
     }
-    names.push(String::from_str(alloc, name)?)?;
-    Ok(names.len().saturating_sub(1))
+    None
 }
 
-fn add_symbol(alloc: Global, all: &mut Alphabet, word: &str) -> Result<(), OutOfMemory> {
-    let symbol = match word.split_once(':') {
-        Some((loc, fun)) => Symbol {
-            loc: number_of(alloc, &mut all.locations, loc)?,
-            fun: Some(number_of(alloc, &mut all.functions, fun)?),
-        },
-        None => Symbol {
-            loc: number_of(alloc, &mut all.locations, word)?,
-            fun: None,
-        },
-    };
-    all.symbols.push(symbol)?;
-    Ok(())
+// The place of the first name in a list of symbols that has this function.
+fn place_of_function(symbols: &str, name: &str) -> Option<usize> {
+    for (place, word) in symbols.split(' ').enumerate() {
+        if halves(word).1 == name {
+            return Some(place);
+        }
+    }
+    None
 }
 
-fn alphabet_of(alloc: Global, words: &str) -> Result<Alphabet, OutOfMemory> {
-    let mut all = Alphabet {
-        locations: Vec::new(alloc),
-        functions: Vec::new(alloc),
-        symbols: Vec::new(alloc),
+fn symbol_of(symbols: &str, word: &str) -> Symbol {
+    let (loc, fun) = halves(word);
+    let loc = place_of(symbols, loc).unwrap_or(usize::MAX);
+    let fun = if fun == "" {
+        None
+    } else {
+        place_of_function(symbols, fun)
     };
-    for word in words.split(' ') {
-        add_symbol(alloc, &mut all, word)?;
+    Symbol { loc, fun }
+}
+
+fn symbols_of(alloc: Global, symbols: &str) -> Result<Vec<Symbol>, OutOfMemory> {
+    let mut all = Vec::new(alloc);
+    for word in symbols.split(' ') {
+        all.push(symbol_of(symbols, word))?;
     }
     Ok(all)
 }
 
 // The path of a name: of a location, of a function, or of no word where it is neither.
-fn path_of_name(all: &Alphabet, name: &str) -> Path {
-    match number_among(&all.locations, name) {
-        Some(loc) => Path::Loc(loc),
-        None => match number_among(&all.functions, name) {
-            Some(fun) => Path::Fun(fun),
-            None => Path::Nothing,
-        },
+fn path_of_name(symbols: &str, name: &str) -> Path {
+    match (place_of(symbols, name), place_of_function(symbols, name)) {
+        (Some(loc), _) => Path::Loc(loc),
+        (None, Some(fun)) => Path::Fun(fun),
+        (None, None) => Path::Nothing,
     }
 }
 
+fn star(alloc: Global, path: Path) -> Result<Path, OutOfMemory> {
+    Ok(Path::Star(Boxed::new(alloc, path)?))
+}
+
+fn complement(alloc: Global, path: Path) -> Result<Path, OutOfMemory> {
+    Ok(Path::Not(Boxed::new(alloc, path)?))
+}
+
+fn cat(alloc: Global, first: Path, next: Path) -> Result<Path, OutOfMemory> {
+    Ok(Path::Cat(Boxed::new(alloc, first)?, Boxed::new(alloc, next)?))
+}
+
 #[cycle(path_of)]
-fn path_of(alloc: Global, all: &Alphabet, path: &RawPath) -> Result<Path, OutOfMemory> {
+fn path_of(alloc: Global, symbols: &str, path: &RawPath) -> Result<Path, OutOfMemory> {
     match path {
         RawPath::Dot => Ok(Path::Dot),
-        RawPath::Named { name, .. } => Ok(path_of_name(all, text_of(name.bytes()))),
-        RawPath::Cat(parts) => sequence_of(alloc, all, parts.as_slice()),
-        RawPath::Alt(parts) => Ok(Path::Alt(paths_of(alloc, all, parts.as_slice())?)),
-        RawPath::Star(part) => Ok(Path::Star(Boxed::new(alloc, path_of(alloc, all, part.get())?)?)),
-        RawPath::Not(part) => Ok(Path::Not(Boxed::new(alloc, path_of(alloc, all, part.get())?)?)),
+        RawPath::Named { name, .. } => Ok(path_of_name(symbols, text_of(name.bytes()))),
+        RawPath::Cat(parts) => sequence_of(alloc, symbols, parts.as_slice()),
+        RawPath::Alt(parts) => choice_of(alloc, symbols, parts.as_slice()),
+        RawPath::Star(part) => star(alloc, path_of(alloc, symbols, part.get())?),
+        RawPath::Not(part) => complement(alloc, path_of(alloc, symbols, part.get())?),
     }
 }
 
 #[cycle(path_of)]
-fn sequence_of(alloc: Global, all: &Alphabet, parts: &[RawPath]) -> Result<Path, OutOfMemory> {
+fn sequence_of(alloc: Global, symbols: &str, parts: &[RawPath]) -> Result<Path, OutOfMemory> {
     let mut whole = Path::Empty;
     for part in parts {
-        let next = path_of(alloc, all, part)?;
-        whole = Path::Cat(Boxed::new(alloc, whole)?, Boxed::new(alloc, next)?);
+        whole = cat(alloc, whole, path_of(alloc, symbols, part)?)?;
     }
     Ok(whole)
 }
 
 #[cycle(path_of)]
-fn paths_of(alloc: Global, all: &Alphabet, parts: &[RawPath]) -> Result<Items<Path>, OutOfMemory> {
+fn choice_of(alloc: Global, symbols: &str, parts: &[RawPath]) -> Result<Path, OutOfMemory> {
     let mut paths = Items::new(alloc);
     for part in parts {
-        paths.push(path_of(alloc, all, part)?)?;
+        paths.push(path_of(alloc, symbols, part)?)?;
     }
-    Ok(paths)
+    Ok(Path::Alt(paths))
 }
 
 // The path of the default of a policy.
-fn default_path_of(alloc: Global, all: &Alphabet, policy: &Policy) -> Result<Path, OutOfMemory> {
+fn default_path_of(alloc: Global, symbols: &str, policy: &Policy) -> Result<Path, OutOfMemory> {
     match &policy.default_path {
-        Some(path) => path_of(alloc, all, path),
+        Some(path) => path_of(alloc, symbols, path),
         None => Ok(Path::Nothing),
     }
 }
 
 // The line of a state: the states after each symbol, and whether it accepts and lives.
-fn add_state(out: &mut String, automaton: &Automaton, state: usize) -> Result<(), OutOfMemory> {
+fn add_state(out: &mut Lines, automaton: &Automaton, state: usize) {
     if automaton.states() <= state {
-        return Ok(());
+        return;
     }
-    write!(out, "{state}:")?;
+    out.add_number(state as u64);
+    out.add(":");
     for symbol in 0..automaton.symbols() {
-        write!(out, " {}", automaton.step(state, symbol))?;
+        out.add_numbers(&[automaton.step(state, symbol) as u64]);
     }
     if automaton.accepts(state) {
-        out.push_str(" accepts")?;
+        out.add(" accepts");
     }
     if automaton.live(state) {
-        out.push_str(" lives")?;
+        out.add(" lives");
     }
-    out.push('\n')?;
-    Ok(())
+    out.add("\n");
 }
 
-fn table_of(alloc: Global, automaton: &Automaton) -> Result<String, OutOfMemory> {
-    let mut out = String::from_str(alloc, "0\n")?;
+fn add_states(out: &mut Lines, automaton: &Automaton) {
+    out.add("0\n");
     for state in 0..automaton.states() {
-        add_state(&mut out, automaton, state)?;
+        add_state(out, automaton, state);
     }
-    Ok(out)
 }
 
-fn count_of(alloc: Global, automaton: &Automaton) -> Result<String, OutOfMemory> {
-    Ok(format!(in alloc; "0\n{} states\n", automaton.states())?)
+// Status, and a number of states.
+fn answer_count(out: &mut Lines, status: u64, count: u64) {
+    out.add_number(status);
+    out.add("\n");
+    out.add_number(count);
+    out.add(" states\n");
 }
 
-// The state after a symbol, which is given by its place in the list.
-fn step(automaton: &Automaton, state: usize, symbol: Option<usize>) -> Option<usize> {
-    let symbol = symbol?;
+// The state after a symbol, which is given by its name.
+fn after(automaton: &Automaton, state: usize, symbols: &str, name: &str) -> Option<usize> {
+    let symbol = place_of(symbols, name)?;
     if state < automaton.states() && symbol < automaton.symbols() {
         Some(automaton.step(state, symbol))
     } else {
@@ -152,107 +160,81 @@ fn step(automaton: &Automaton, state: usize, symbol: Option<usize>) -> Option<us
     }
 }
 
-// Whether a word is accepted, whose symbols blanks part.
-fn accepts(automaton: &Automaton, symbols: &str, word: &str) -> bool {
-    let mut state = Some(0);
+// The state after a word, whose symbols blanks part.
+fn after_word(automaton: &Automaton, symbols: &str, word: &str) -> Option<usize> {
+    let mut state = 0;
     for name in word.split(' ') {
         if name != "" {
-            let symbol = symbols.split(' ').position(|symbol| symbol == name);
-            state = match state {
-                Some(state) => step(automaton, state, symbol),
-                None => None,
-            };
+            state = after(automaton, state, symbols, name)?;
         }
     }
-    match state {
+    Some(state)
+}
+
+fn accepts(automaton: &Automaton, symbols: &str, word: &str) -> bool {
+    match after_word(automaton, symbols, word) {
         Some(state) => state < automaton.states() && automaton.accepts(state),
         None => false,
     }
 }
 
-fn verdicts(
+fn add_verdicts(out: &mut Lines, automaton: &Automaton, symbols: &str, words: &str) {
+    out.add("0\n");
+    for word in words.lines() {
+        out.add(verdict(accepts(automaton, symbols, word)));
+        out.add(": ");
+        out.add(word);
+        out.add("\n");
+    }
+}
+
+// What is asked of an automaton; the words are those of a file.
+fn answer(automaton: &Automaton, asked: Asked, symbols: &str, words: &str, out: &mut Lines) {
+    match asked {
+        Asked::Table => add_states(out, automaton),
+        Asked::Accepts => add_verdicts(out, automaton, symbols, words),
+        _ => answer_count(out, 0, automaton.states() as u64),
+    }
+}
+
+// What is answered of the automaton of a path over symbols.
+fn of_symbols(
     alloc: Global,
-    automaton: &Automaton,
+    path: &Path,
+    all: &[Symbol],
+    asked: Asked,
     symbols: &str,
     words: &str,
-) -> Result<String, OutOfMemory> {
-    let mut out = String::from_str(alloc, "0\n")?;
-    for word in words.lines() {
-        write!(
-            out,
-            "{}: {word}\n",
-            verdict(accepts(automaton, symbols, word))
-        )?;
-    }
-    Ok(out)
-}
-
-/// What is asked of an automaton.
-#[derive(Clone, Copy)]
-enum Asked<'a> {
-    Table,
-    Count,
-    Words(&'a str),
-}
-
-fn told(
-    alloc: Global,
-    automaton: &Automaton,
-    symbols: &str,
-    asked: Asked<'_>,
-) -> Result<String, OutOfMemory> {
-    match asked {
-        Asked::Table => table_of(alloc, automaton),
-        Asked::Count => count_of(alloc, automaton),
-        Asked::Words(words) => verdicts(alloc, automaton, symbols, words),
+    out: &mut Lines,
+) {
+    match build(alloc, path, all) {
+        Ok(automaton) => answer(&automaton, asked, symbols, words, out),
+        Err(AutomatonFault::TooManyStates { count }) => answer_count(out, 1, count),
+        Err(AutomatonFault::OutOfMemory) => out.cut(),
     }
 }
 
-fn of_policy(
+// The same over the symbols of these names.
+fn of_path(alloc: Global, path: &Path, asked: Asked, symbols: &str, words: &str, out: &mut Lines) {
+    match symbols_of(alloc, symbols) {
+        Ok(all) => of_symbols(alloc, path, &all, asked, symbols, words, out),
+        Err(_) => out.cut(),
+    }
+}
+
+/// What is asked of the automaton of a policy's default path over symbols.
+pub fn answer_to(
     alloc: Global,
-    symbols: &str,
     policy: &Policy,
-    asked: Asked<'_>,
-) -> Result<String, OutOfMemory> {
-    let all = alphabet_of(alloc, symbols)?;
-    let path = default_path_of(alloc, &all, policy)?;
-    match build(alloc, &path, &all.symbols) {
-        Ok(automaton) => told(alloc, &automaton, symbols, asked),
-        Err(AutomatonFault::TooManyStates { count }) => {
-            Ok(format!(in alloc; "1\n{count} states\n")?)
-        }
-        Err(AutomatonFault::OutOfMemory) => Err(OutOfMemory),
-    }
-}
-
-fn answer(
-    alloc: Global,
-    symbols: &str,
-    text: &[u8],
-    asked: Asked<'_>,
-) -> Result<String, OutOfMemory> {
-    match parse(alloc, text) {
-        Ok(policy) => of_policy(alloc, symbols, &policy, asked),
-        Err(fault) => fault_answer(alloc, &fault),
-    }
-}
-
-/// `automaton|SYMBOLS|FILE`: a line for each state of the automaton of a policy's default path over the symbols.
-pub fn table(alloc: Global, words: &str, store: &Store) -> Result<String, OutOfMemory> {
+    asked: Asked,
+    words: &str,
+    store: &Store,
+    out: &mut Lines,
+) {
     let (symbols, file) = parted(words);
-    answer(alloc, symbols, content(store, file), Asked::Table)
-}
-
-/// `states|SYMBOLS|FILE`: the number of its states.
-pub fn count(alloc: Global, words: &str, store: &Store) -> Result<String, OutOfMemory> {
-    let (symbols, file) = parted(words);
-    answer(alloc, symbols, content(store, file), Asked::Count)
-}
-
-/// `accepts|SYMBOLS|FILE|WORDS`: for each line of the file WORDS whether the automaton accepts this word of symbols.
-pub fn words(alloc: Global, words: &str, store: &Store) -> Result<String, OutOfMemory> {
-    let (symbols, files) = parted(words);
-    let (file, lines) = parted(files);
-    let asked = Asked::Words(text_of(content(store, lines)));
-    answer(alloc, symbols, content(store, file), asked)
+    let words = text_of(content(store, file));
+    match default_path_of(alloc, symbols, policy) {
+        Ok(path) => of_path(alloc, &path, asked, symbols, words, out),
+        Err(_) => out.cut(),
+    }
 }

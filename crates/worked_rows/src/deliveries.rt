@@ -3,11 +3,11 @@
 ghost use Rattle.std.specs.Prelude.{IsTrue};
 ghost use Rattle.merlin_model.specs.Networks.{IsHost};
 
+use crate::lines::Lines;
 use crate::packets::packet_from;
 use crate::store::{Store, content};
-use crate::texts::{answer_of, parted, text_of};
+use crate::texts::{parted, text_of};
 use merlin::{Compiled, compile_policy};
-use merlin_base::OutOfMemory;
 use merlin_model::policy::Objective;
 use packet_model::{Packet, print_packet};
 use packet_trace::{End, Trace, trace_plain};
@@ -29,62 +29,62 @@ fn name_of(net: &Topology, loc: usize) -> &str {
     }
 }
 
-fn add_end(alloc: Global, out: &mut String, net: &Topology, end: End) -> Result<(), OutOfMemory> {
+// A line of a word and a location.
+fn add_place(out: &mut Lines, net: &Topology, word: &str, loc: usize) {
+    out.add(word);
+    out.add(name_of(net, loc));
+    out.add("\n");
+}
+
+fn add_end(alloc: Global, out: &mut Lines, net: &Topology, end: End) {
     match end {
         End::Delivered { host, packet } => {
-            let name = print_packet(alloc, &packet)?;
-            let text = text_of(name.bytes());
-            write!(out, "delivered {} {text}\n", name_of(net, host))?;
+            out.add("delivered ");
+            out.add(name_of(net, host));
+            out.add(" ");
+            out.add_name(print_packet(alloc, &packet));
+            out.add("\n");
         }
-        End::Dropped { loc } => write!(out, "dropped {}\n", name_of(net, loc))?,
-        End::StillRunning => out.push_str("still running\n")?,
+        End::Dropped { loc } => add_place(out, net, "dropped ", loc),
+        End::StillRunning => out.add("still running\n"),
     }
-    Ok(())
 }
 
 // Status 0, a line for each location that the packet leaves, and its end.
-fn described(alloc: Global, net: &Topology, trace: &Trace) -> Result<String, OutOfMemory> {
-    let mut out = String::from_str(alloc, "0\n")?;
+fn describe(alloc: Global, out: &mut Lines, net: &Topology, trace: &Trace) {
+    out.add("0\n");
     for visit in trace.visits.as_slice() {
-        write!(out, "at {}\n", name_of(net, visit.loc))?;
+        add_place(out, net, "at ", visit.loc);
     }
-    add_end(alloc, &mut out, net, trace.end)?;
-    Ok(out)
+    add_end(alloc, out, net, trace.end);
 }
 
-fn followed(
-    alloc: Global,
-    compiled: &Compiled,
-    host: usize,
-    packet: Packet,
-) -> Result<String, OutOfMemory> {
+fn follow(alloc: Global, compiled: &Compiled, host: usize, packet: Packet, out: &mut Lines) {
     if !is_host(&compiled.net, host) || !compiled.config.processes.is_empty() {
-        return answer_of(alloc, 1, "no trace");
+        out.answer(1, "no trace");
+        return;
     }
-    let trace = trace_plain(alloc, &compiled.net, &compiled.config, host, packet)?;
-    described(alloc, &compiled.net, &trace)
+    match trace_plain(alloc, &compiled.net, &compiled.config, host, packet) {
+        Ok(trace) => describe(alloc, out, &compiled.net, &trace),
+        Err(_) => out.cut(),
+    }
 }
 
-fn from_host(
-    alloc: Global,
-    compiled: &Compiled,
-    host: &str,
-    text: &str,
-) -> Result<String, OutOfMemory> {
-    match (compiled.net.find(host.as_bytes()), packet_from(text)) {
-        (Some(loc), Some(packet)) => followed(alloc, compiled, loc, packet),
-        _ => answer_of(alloc, 1, "no host and packet"),
+fn follow_from(alloc: Global, compiled: &Compiled, words: &str, out: &mut Lines) {
+    let (host, packet) = parted(words);
+    match (compiled.net.find(host.as_bytes()), packet_from(packet)) {
+        (Some(loc), Some(packet)) => follow(alloc, compiled, loc, packet, out),
+        _ => out.answer(1, "no host and packet"),
     }
 }
 
 /// `delivery|POLICY|TOPOLOGY|HOST|PACKET`: what becomes of a packet that the host sends.
-pub fn answer_to(alloc: Global, words: &str, store: &Store) -> Result<String, OutOfMemory> {
+pub fn answer_to(alloc: Global, words: &str, store: &Store, out: &mut Lines) {
     let (policy, words) = parted(words);
     let (topology, words) = parted(words);
-    let (host, packet) = parted(words);
     let (policy, topology) = (content(store, policy), content(store, topology));
     match compile_policy(alloc, policy, topology, Objective::Shortest) {
-        Ok(compiled) => from_host(alloc, &compiled, host, packet),
-        Err(_) => answer_of(alloc, 1, "not compiled"),
+        Ok(compiled) => follow_from(alloc, &compiled, words, out),
+        Err(_) => out.answer(1, "not compiled"),
     }
 }

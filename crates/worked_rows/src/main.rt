@@ -5,6 +5,7 @@
 mod answers;
 mod automata;
 mod deliveries;
+mod lines;
 mod networks;
 mod outside;
 mod packets;
@@ -20,8 +21,9 @@ mod traffic;
 mod trees;
 
 use crate::script::Script;
-use merlin_base::{OutOfMemory, StdFiles, read_all};
-use std::alloc::{AllocError, Global};
+use crate::texts::text_of;
+use merlin_base::{StdFiles, read_all};
+use std::alloc::Global;
 use std::process::ExitCode;
 use std::rt::Env;
 use std::{env, io};
@@ -29,51 +31,38 @@ use std::{env, io};
 // A file of rows may have so many bytes.
 const LONGEST: usize = 16_777_216;
 
-/// What was found in a file of rows.
-#[derive(Drop)]
-struct Found {
-    /// how many rows were tried
-    rows: usize,
-    /// what is wrong, a line each
-    wrong: String,
-}
-
-// The rows of a text, and what is wrong with them.
-fn found_in(alloc: Global, text: &str) -> Result<Found, OutOfMemory> {
+// The rows of a text that were tried, with what is wrong.
+fn tried(alloc: Global, text: &str) -> Script {
     let mut script = Script::new(alloc);
     for line in text.lines() {
-        script.take(line)?;
+        script.take(line);
     }
-    script.end_block()?;
-    let Script { rows, wrong, .. } = script;
-    Ok(Found { rows, wrong })
+    script.end_block();
+    script
 }
 
-// The text of the file of this name. None where it cannot be read.
-fn text_of(rt: &HostRuntime, name: &str) -> Option<String> {
-    let mut files = StdFiles::new(rt);
-    let bytes = read_all(rt.alloc(), &mut files, name, LONGEST).ok()?;
-    String::from_utf8(bytes).ok()
-}
-
-// Whether all rows of a file are as they must be. Their count goes to the output, what is wrong to the error output.
-fn is_well(rt: &HostRuntime, name: &str) -> io::Result<bool> {
-    let Some(text) = text_of(rt, name) else {
-        eprintln!(rt; "{name}: no text")?;
-        return Ok(false);
-    };
-    let Ok(found) = found_in(rt.alloc(), &text) else {
-        eprintln!(rt; "{name}: out of memory")?;
-        return Ok(false);
-    };
-    let rows = found.rows;
+// Says how many rows there are in a file, and what is wrong on the error output.
+fn tell(rt: &HostRuntime, name: &str, rows: u64, wrong: &str) -> io::Result<bool> {
     println!(rt; "{name}: {rows} rows")?;
-    if found.wrong.is_empty() {
-        return Ok(true);
+    if wrong != "" {
+        eprint!(rt; "{name}:\n{wrong}")?;
     }
-    let wrong = found.wrong.as_str();
-    eprint!(rt; "{name}:\n{wrong}")?;
-    Ok(false)
+    Ok(wrong == "")
+}
+
+// Whether all rows of a text are as they must be.
+fn are_right(rt: &HostRuntime, name: &str, text: &str) -> io::Result<bool> {
+    let script = tried(rt.alloc(), text);
+    tell(rt, name, script.rows, script.wrong.text())
+}
+
+// Whether all rows of a file are as they must be.
+fn is_well(rt: &HostRuntime, name: &str) -> io::Result<bool> {
+    let mut files = StdFiles::new(rt);
+    match read_all(rt.alloc(), &mut files, name, LONGEST) {
+        Ok(bytes) => are_right(rt, name, text_of(&bytes)),
+        Err(_) => tell(rt, name, 0, "the file is not read\n"),
+    }
 }
 
 fn are_well(rt: &HostRuntime) -> io::Result<bool> {

@@ -1,11 +1,14 @@
 //! What a topology is read as.
 ghost use Rattle.std.specs.Prelude.{◌<◌, length};
 
-use crate::texts::text_of;
-use merlin_base::{OutOfMemory, ip_text, mac_text};
+use crate::lines::Lines;
+use crate::packets;
+use crate::store::{Store, content};
+use crate::texts::parted;
+use merlin_base::{ip_text, mac_text};
 use merlin_model::network::Place;
 use std::alloc::Global;
-use topology::{NetFault, Topology, read};
+use topology::{HostAddress, NetFault, Topology, read};
 
 fn place_word(place: Place) -> &'static str {
     match place {
@@ -15,80 +18,103 @@ fn place_word(place: Place) -> &'static str {
     }
 }
 
-// The line of a location: what stands there, its number and its name, and the addresses of a host. It is found by its name.
-fn add_location(
-    alloc: Global,
-    out: &mut String,
-    net: &Topology,
-    loc: usize,
-) -> Result<(), OutOfMemory>
-    requires { loc < length net.now.locations }
-{
-    let word = place_word(net.place(loc));
-    let name = text_of(net.name(loc).bytes());
-    write!(out, "{word} {loc} {name}")?;
-    if let Some(address) = net.host(loc) {
-        let eth = mac_text(alloc, address.eth)?;
-        let ip = ip_text(alloc, address.ip)?;
-        let (eth, ip) = (text_of(eth.bytes()), text_of(ip.bytes()));
-        write!(out, " {eth} {ip}")?;
-    }
-    if net.find(name.as_bytes()) != Some(loc) {
-        out.push_str(" not found")?;
-    }
-    out.push('\n')?;
-    Ok(())
+// The addresses of a host, each behind a blank.
+fn add_address(alloc: Global, out: &mut Lines, address: HostAddress) {
+    out.add(" ");
+    out.add_name(mac_text(alloc, address.eth));
+    out.add(" ");
+    out.add_name(ip_text(alloc, address.ip));
 }
 
-// A line for each port of a location that has a link: its far end, and the port that leads there.
-fn add_neighbours(out: &mut String, net: &Topology, loc: usize) -> Result<(), OutOfMemory>
+// The line of a location: what stands there, its number and its name, and the addresses of a host. It is found by its name.
+fn add_location(alloc: Global, out: &mut Lines, net: &Topology, loc: usize)
+    requires { loc < length net.now.locations }
+{
+    let name = net.name(loc).bytes();
+    out.add(place_word(net.place(loc)));
+    out.add_numbers(&[loc as u64]);
+    out.add(" ");
+    out.add_bytes(name);
+    if let Some(address) = net.host(loc) {
+        add_address(alloc, out, address);
+    }
+    if net.find(name) != Some(loc) {
+        out.add(" not found");
+    }
+    out.add("\n");
+}
+
+// The line of a port that has a link: its far end, and the port that leads there.
+fn add_neighbour(out: &mut Lines, net: &Topology, loc: usize, port: u16, to: usize, in_port: u16)
+    requires { loc < length net.now.locations }
+{
+    out.add("from");
+    out.add_numbers(&[loc as u64, u64::from(port)]);
+    out.add(" to");
+    out.add_numbers(&[to as u64, u64::from(in_port)]);
+    if to < net.locations() && net.port_to(loc, to) != Some(port) {
+        out.add(" no port");
+    }
+    out.add("\n");
+}
+
+// A line for each port of a location that has a link.
+fn add_neighbours(out: &mut Lines, net: &Topology, loc: usize)
     requires { loc < length net.now.locations }
 {
     for port in 0..=u16::MAX {
         if let Some((to, in_port)) = net.neighbour(loc, port) {
-            write!(out, "from {loc} {port} to {to} {in_port}")?;
-            if to < net.locations() && net.port_to(loc, to) != Some(port) {
-                out.push_str(" no port")?;
-            }
-            out.push('\n')?;
+            add_neighbour(out, net, loc, port, to, in_port);
         }
     }
-    Ok(())
 }
 
 // A line for each link: its two ends, its capacity there and back, and its weight.
-fn add_links(out: &mut String, net: &Topology) -> Result<(), OutOfMemory> {
+fn add_links(out: &mut Lines, net: &Topology) {
     for link in net.links() {
-        let (capacity, back, weight) = (link.capacity, link.back, link.weight);
-        let (a, aport) = (link.a, link.aport);
-        let (b, bport) = (link.b, link.bport);
-        write!(
-            out,
-            "link {a} {aport} {b} {bport} {capacity} {back} {weight}\n"
-        )?;
+        out.add("link");
+        out.add_numbers(&[link.a as u64, u64::from(link.aport)]);
+        out.add_numbers(&[link.b as u64, u64::from(link.bport)]);
+        out.add_numbers(&[link.capacity, link.back, u64::from(link.weight)]);
+        out.add("\n");
     }
-    Ok(())
 }
 
 // Status 0 and the lines of a network.
-fn described(alloc: Global, net: &Topology) -> Result<String, OutOfMemory> {
-    let mut out = String::from_str(alloc, "0\n")?;
+fn describe(alloc: Global, out: &mut Lines, net: &Topology) {
+    out.add("0\n");
     for loc in 0..net.locations() {
-        add_location(alloc, &mut out, net, loc)?;
+        add_location(alloc, out, net, loc);
     }
-    add_links(&mut out, net)?;
+    add_links(out, net);
     for loc in 0..net.locations() {
-        add_neighbours(&mut out, net, loc)?;
+        add_neighbours(out, net, loc);
     }
-    Ok(out)
 }
 
-/// `topology|FILE`: status 0 and the network that a topology describes, or status 1 and why there is none.
-pub fn answer_to(alloc: Global, text: &[u8]) -> Result<String, OutOfMemory> {
-    match read(alloc, text) {
-        Ok(net) => described(alloc, &net),
-        Err(NetFault::Json) => Ok(String::from_str(alloc, "1\njson\n")?),
-        Err(NetFault::Unbuilt) => Ok(String::from_str(alloc, "1\nunbuilt\n")?),
-        Err(NetFault::OutOfMemory) => Err(OutOfMemory),
+/// What is asked of a topology.
+#[derive(Clone, Copy)]
+pub enum Asked {
+    /// `topology|FILE`: the network that it describes
+    Whole,
+    /// `proper|FILE|PACKET|HOST|HOST`: whether the packet is one from the first host to the second
+    Proper,
+}
+
+fn answer(alloc: Global, net: &Topology, asked: Asked, words: &str, out: &mut Lines) {
+    match asked {
+        Asked::Whole => describe(alloc, out, net),
+        Asked::Proper => packets::properness(net, words, out),
+    }
+}
+
+/// What is asked of the network of a topology, or status 1 and why it describes none.
+pub fn answer_to(alloc: Global, words: &str, store: &Store, asked: Asked, out: &mut Lines) {
+    let (file, words) = parted(words);
+    match read(alloc, content(store, file)) {
+        Ok(net) => answer(alloc, &net, asked, words, out),
+        Err(NetFault::Json) => out.answer(1, "json"),
+        Err(NetFault::Unbuilt) => out.answer(1, "unbuilt"),
+        Err(NetFault::OutOfMemory) => out.cut(),
     }
 }

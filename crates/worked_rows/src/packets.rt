@@ -1,11 +1,10 @@
 //! Packets: their texts, what sets one field, and whether one is proper between two hosts.
 
-use crate::store::{Store, content};
-use crate::texts::{answer_of, parted, text_of, verdict};
-use merlin_base::OutOfMemory;
+use crate::lines::Lines;
+use crate::texts::{parted, verdict};
 use packet_model::{Field, HostAddress, Packet, PacketFault, parse_packet, print_packet};
 use std::alloc::Global;
-use topology::{Topology, read};
+use topology::Topology;
 
 /// The packet of a text, and None where it is none.
 pub fn packet_from(text: &str) -> Option<Packet> {
@@ -13,10 +12,14 @@ pub fn packet_from(text: &str) -> Option<Packet> {
 }
 
 /// `packet|PACKET`: the packet as it is printed, or where its text is wrong.
-pub fn reading(alloc: Global, text: &str) -> Result<String, OutOfMemory> {
+pub fn reading(alloc: Global, text: &str, out: &mut Lines) {
     match parse_packet(text.as_bytes()) {
-        Ok(packet) => answer_of(alloc, 0, text_of(print_packet(alloc, &packet)?.bytes())),
-        Err(PacketFault::BadPacket { at }) => Ok(format!(in alloc; "1\npacket at {at}\n")?),
+        Ok(packet) => {
+            out.add("0\n");
+            out.add_name(print_packet(alloc, &packet));
+            out.add("\n");
+        }
+        Err(PacketFault::BadPacket { at }) => out.answer_at("packet", at),
     }
 }
 
@@ -55,14 +58,17 @@ fn set_of(words: &str) -> Option<(Packet, Field)> {
 }
 
 /// `set|PACKET|FIELD=VALUE`: the packet with this field, and the value that it has then.
-pub fn setting(alloc: Global, words: &str) -> Result<String, OutOfMemory> {
-    let Some((packet, field)) = set_of(words) else {
-        return answer_of(alloc, 1, "nothing is set");
-    };
-    let value = packet.value(field);
-    let name = print_packet(alloc, &packet)?;
-    let text = text_of(name.bytes());
-    Ok(format!(in alloc; "0\n{text}\n{value}\n")?)
+pub fn setting(alloc: Global, words: &str, out: &mut Lines) {
+    match set_of(words) {
+        Some((packet, field)) => {
+            out.add("0\n");
+            out.add_name(print_packet(alloc, &packet));
+            out.add("\n");
+            out.add_number(packet.value(field));
+            out.add("\n");
+        }
+        None => out.answer(1, "nothing is set"),
+    }
 }
 
 /// The addresses of the host of this name.
@@ -80,19 +86,14 @@ fn is_proper(net: &Topology, text: &str, names: &str) -> Option<bool> {
     let (from, to) = parted(names);
     let packet = packet_from(text)?;
     let (from, to) = (address_of(net, from)?, address_of(net, to)?);
-    Some(packet_model::is_proper(&packet, from, to))
+    Some(packet_model::proper(&packet, from, to))
 }
 
-/// `proper|TOPOLOGY|PACKET|HOST|HOST`: whether the packet is one from the first host to the second.
-pub fn properness(alloc: Global, words: &str, store: &Store) -> Result<String, OutOfMemory> {
-    let (file, words) = parted(words);
+/// Whether the packet of some words is one from the first host to the second.
+pub fn properness(net: &Topology, words: &str, out: &mut Lines) {
     let (text, names) = parted(words);
-    let is_proper = match read(alloc, content(store, file)) {
-        Ok(net) => is_proper(&net, text, names),
-        Err(_) => None,
-    };
-    match is_proper {
-        Some(is_proper) => answer_of(alloc, 0, verdict(is_proper)),
-        None => answer_of(alloc, 1, "no packet and hosts"),
+    match is_proper(net, text, names) {
+        Some(is_proper) => out.answer(0, verdict(is_proper)),
+        None => out.answer(1, "no packet and hosts"),
     }
 }

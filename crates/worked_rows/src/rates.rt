@@ -1,10 +1,9 @@
 //! Localised rates.
 
-use crate::policies::fault_answer;
-use crate::texts::text_of;
+use crate::lines::Lines;
 use localise::{RateFault, Rates, localise};
 use merlin_base::{Name, OutOfMemory};
-use policy_parser::{Policy, Statement, parse};
+use policy_parser::{Policy, Statement};
 use std::alloc::Global;
 
 // The ids of the statements, in order.
@@ -17,51 +16,70 @@ fn ids_of(alloc: Global, statements: &[Statement]) -> Result<Vec<Name>, OutOfMem
 }
 
 // The line of a statement: its id, its minimum, and its maximum if it is capped.
-fn add_rates(out: &mut String, id: &Name, min: u64, max: Option<u64>) -> Result<(), OutOfMemory> {
-    write!(out, "{} min {min}", text_of(id.bytes()))?;
+fn add_rates(out: &mut Lines, id: &Name, min: u64, max: Option<u64>) {
+    out.add_bytes(id.bytes());
+    out.add(" min");
+    out.add_numbers(&[min]);
     match max {
-        Some(max) => write!(out, " max {max}\n")?,
-        None => out.push_str(" uncapped\n")?,
+        Some(max) => {
+            out.add(" max");
+            out.add_numbers(&[max]);
+        }
+        None => out.add(" uncapped"),
     }
-    Ok(())
+    out.add("\n");
 }
 
 // Status 0 and a line for each id.
-fn lines_of(alloc: Global, ids: &[Name], rates: &Rates) -> Result<String, OutOfMemory> {
-    let mut out = String::from_str(alloc, "0\n")?;
-    let limits = rates.min.as_slice().iter().zip(rates.max.as_slice());
-    for (id, (min, max)) in ids.iter().zip(limits) {
-        add_rates(&mut out, id, *min, *max)?;
+fn describe(out: &mut Lines, ids: &[Name], rates: &Rates) {
+    out.add("0\n");
+    for (place, id) in ids.iter().enumerate() {
+        match (rates.min.get(place), rates.max.get(place)) {
+            (Some(min), Some(max)) => add_rates(out, id, *min, *max),
+            _ => out.add("no rates\n"),
+        }
     }
-    Ok(out)
+}
+
+// A word and an id.
+fn add_id(out: &mut Lines, word: &str, id: &Name) {
+    out.add(word);
+    out.add_bytes(id.bytes());
 }
 
 // Why there are no rates.
-fn refusal(alloc: Global, fault: &RateFault) -> Result<String, OutOfMemory> {
-    let line = match fault {
-        RateFault::UnknownId { id } => format!(in alloc; "unknown id {}", text_of(id.bytes()))?,
-        RateFault::RepeatedId { id } => format!(in alloc; "repeated id {}", text_of(id.bytes()))?,
-        RateFault::ConstantTooLarge { term } => format!(in alloc; "constant in term {term}")?,
-        RateFault::LocalisedConflict { id, min, max } => {
-            format!(in alloc; "conflict {} min {min} max {max}", text_of(id.bytes()))?
+fn answer_fault(out: &mut Lines, fault: &RateFault) {
+    out.add("1\nrefused: ");
+    match fault {
+        RateFault::UnknownId { id } => add_id(out, "unknown id ", id),
+        RateFault::RepeatedId { id } => add_id(out, "repeated id ", id),
+        RateFault::ConstantTooLarge { term } => {
+            out.add("constant in term");
+            out.add_numbers(&[*term as u64]);
         }
-        RateFault::OutOfMemory => return Err(OutOfMemory),
-    };
-    Ok(format!(in alloc; "1\nrefused: {line}\n")?)
+        RateFault::LocalisedConflict { id, min, max } => {
+            add_id(out, "conflict ", id);
+            out.add(" min");
+            out.add_numbers(&[*min]);
+            out.add(" max");
+            out.add_numbers(&[*max]);
+        }
+        RateFault::OutOfMemory => out.cut(),
+    }
+    out.add("\n");
 }
 
-fn rates_answer(alloc: Global, policy: &Policy) -> Result<String, OutOfMemory> {
-    let ids = ids_of(alloc, policy.statements.as_slice())?;
-    match localise(alloc, &policy.formula, &ids) {
-        Ok(rates) => lines_of(alloc, &ids, &rates),
-        Err(fault) => refusal(alloc, &fault),
+fn answer(alloc: Global, policy: &Policy, ids: &[Name], out: &mut Lines) {
+    match localise(alloc, &policy.formula, ids) {
+        Ok(rates) => describe(out, ids, &rates),
+        Err(fault) => answer_fault(out, &fault),
     }
 }
 
-/// `rates|FILE`: the localised rates of each statement of a policy, or why there are none.
-pub fn answer_to(alloc: Global, bytes: &[u8]) -> Result<String, OutOfMemory> {
-    match parse(alloc, bytes) {
-        Ok(policy) => rates_answer(alloc, &policy),
-        Err(fault) => fault_answer(alloc, &fault),
+/// The localised rates of each statement of a policy, or why there are none.
+pub fn answer_to(alloc: Global, policy: &Policy, out: &mut Lines) {
+    match ids_of(alloc, policy.statements.as_slice()) {
+        Ok(ids) => answer(alloc, policy, &ids, out),
+        Err(_) => out.cut(),
     }
 }

@@ -16,6 +16,7 @@
 //! In a wanted line the first `*` may stand for digits.
 
 use crate::answers::answer_to;
+use crate::lines::Lines;
 use crate::row::{Row, difference};
 use crate::store::{Store, add, add_times, put};
 use merlin_base::OutOfMemory;
@@ -29,21 +30,21 @@ fn named_text(rest: &str) -> Option<(&str, &str)> {
 }
 
 // A file, how many times, and a text, as `p 128: (`.
-fn counted_text(rest: &str) -> Option<(&str, usize, &str)> {
+fn counted_text(rest: &str) -> Option<(&str, u64, &str)> {
     let (head, text) = named_text(rest)?;
     let (name, times) = head.split_once(' ')?;
-    Some((name, times.parse::<usize>().ok()?, text))
+    Some((name, times.parse::<u64>().ok()?, text))
 }
 
 /// The rows so far.
 #[derive(Drop)]
 pub struct Script {
     alloc: Global,
-    line: usize,
+    line: u64,
     /// how many rows were tried
-    pub rows: usize,
+    pub rows: u64,
     /// what is wrong, a line each
-    pub wrong: String,
+    pub wrong: Lines,
     store: Store,
     command: String,
     failing_reads: Vec<u64>,
@@ -60,7 +61,7 @@ impl Script {
             alloc,
             line: 0,
             rows: 0,
-            wrong: String::new(alloc),
+            wrong: Lines::new(alloc),
             store: BTreeMap::new(alloc),
             command: String::new(alloc),
             failing_reads: Vec::new(alloc),
@@ -71,70 +72,113 @@ impl Script {
     }
 
     // Notes that something at this line is wrong.
-    fn note(&mut self, line: usize, why: &str) -> Result<(), OutOfMemory> {
-        let text = format!(in self.alloc; "line {line}: {why}\n")?;
-        self.wrong.push_str(&text)?;
-        Ok(())
+    fn note(&mut self, line: u64, why: &str) {
+        self.wrong.add("line");
+        self.wrong.add_numbers(&[line]);
+        self.wrong.add(": ");
+        self.wrong.add(why);
+        self.wrong.add("\n");
+    }
+
+    // Notes a line that was wanted, and what came in its place.
+    fn note_difference(&mut self, line: u64, wanted: &str, found: &str) {
+        self.wrong.add("line");
+        self.wrong.add_numbers(&[line]);
+        self.wrong.add(": wanted ");
+        self.wrong.add_quoted(wanted);
+        self.wrong.add(", got ");
+        self.wrong.add_quoted(found);
+        self.wrong.add("\n");
+    }
+
+    // Notes that memory ran out, where it did.
+    fn note_fault(&mut self, done: Result<(), OutOfMemory>) {
+        if done.is_err() {
+            self.wrong.cut();
+        }
+    }
+
+    // Compares what was answered with what the row wants.
+    fn compare(&mut self, row: &Row, got: &str) {
+        match difference(row.wanted.text(), got) {
+            Some((wanted, found)) if row.is_to_be_right => {
+                self.note_difference(row.line, wanted, found)
+            }
+            None if !row.is_to_be_right => self.note(row.line, "it is right, and must not be"),
+            _ => {}
+        }
     }
 
     // Runs the command of a row, and compares.
-    fn run_row(&mut self, row: Row) -> Result<(), OutOfMemory> {
+    fn run_row(&mut self, row: &Row) {
         self.rows = self.rows.saturating_add(1);
-        let got = answer_to(
+        let mut out = Lines::new(self.alloc);
+        answer_to(
             self.alloc,
             &self.command,
             &self.store,
             &self.failing_reads,
             &self.failing_writes,
-        )?;
-        match difference(self.alloc, &row.wanted, &got)? {
-            Some(why) if row.is_to_be_right => self.note(row.line, &why),
-            None if !row.is_to_be_right => self.note(row.line, "it is right, and must not be"),
-            _ => Ok(()),
-        }
+            &mut out,
+        );
+        self.compare(row, out.text());
     }
 
     /// Ends the open file or row.
-    pub fn end_block(&mut self) -> Result<(), OutOfMemory> {
+    pub fn end_block(&mut self) {
         self.file = None;
         if let Some(row) = self.row.take() {
-            self.run_row(row)?;
+            self.run_row(&row);
             self.failing_reads.clear();
             self.failing_writes.clear();
         }
-        Ok(())
+    }
+
+    // Adds a line to the open file.
+    fn add_to_file(&mut self, part: &str) -> Result<(), OutOfMemory> {
+        match &self.file {
+            Some(name) => {
+                add(&mut self.store, self.alloc, name, part.as_bytes())?;
+                add(&mut self.store, self.alloc, name, b"\n")
+            }
+            None => {
+                self.note(self.line, "a bar, and no file or row before it");
+                Ok(())
+            }
+        }
     }
 
     // A line of the open file or row.
-    fn take_part(&mut self, part: &str) -> Result<(), OutOfMemory> {
-        let text = format!(in self.alloc; "{part}\n")?;
+    fn take_part(&mut self, part: &str) {
         if let Some(row) = &mut self.row {
-            row.wanted.push_str(&text)?;
-            return Ok(());
+            row.wanted.add(part);
+            row.wanted.add("\n");
+            return;
         }
-        match &self.file {
-            Some(name) => add(&mut self.store, self.alloc, name, text.as_bytes()),
-            None => self.note(self.line, "a bar, and no file or row before it"),
-        }
+        let done = self.add_to_file(part);
+        self.note_fault(done);
     }
 
     // Begins a row, with its status and its first line, if it has one.
-    fn begin_row(&mut self, rest: &str, is_to_be_right: bool) -> Result<(), OutOfMemory> {
-        let wanted = match rest.split_once(' ') {
-            Some((status, first)) => format!(in self.alloc; "{status}\n{first}\n")?,
-            None => format!(in self.alloc; "{rest}\n")?,
-        };
+    fn begin_row(&mut self, rest: &str, is_to_be_right: bool) {
+        let (status, first) = rest.split_once(' ').unwrap_or((rest, ""));
+        let mut wanted = Lines::new(self.alloc);
+        wanted.add(status);
+        wanted.add("\n");
+        if status != rest {
+            wanted.add(first);
+            wanted.add("\n");
+        }
         self.row = Some(Row {
             line: self.line,
             is_to_be_right,
             wanted,
         });
-        Ok(())
     }
 
     // Begins a file, empty.
     fn begin_file(&mut self, name: &str) -> Result<(), OutOfMemory> {
-        put(&mut self.store, self.alloc, name, "")?;
+        put(&mut self.store, self.alloc, name, b"")?;
         self.file = Some(String::from_str(self.alloc, name)?);
         Ok(())
     }
@@ -142,8 +186,11 @@ impl Script {
     // A file of one line without its end.
     fn take_text(&mut self, rest: &str) -> Result<(), OutOfMemory> {
         match named_text(rest) {
-            Some((name, text)) => put(&mut self.store, self.alloc, name, text),
-            None => self.note(self.line, "no file and text"),
+            Some((name, text)) => put(&mut self.store, self.alloc, name, text.as_bytes()),
+            None => {
+                self.note(self.line, "no file and text");
+                Ok(())
+            }
         }
     }
 
@@ -153,35 +200,52 @@ impl Script {
             Some((name, times, piece)) => {
                 add_times(&mut self.store, self.alloc, name, piece, end, times)
             }
-            None => self.note(self.line, "no file, times and text"),
+            None => {
+                self.note(self.line, "no file, times and text");
+                Ok(())
+            }
         }
     }
 
-    // A file of the bytes that are written in hexadecimal.
-    fn take_bytes(&mut self, rest: &str) -> Result<(), OutOfMemory> {
-        let Some((name, digits)) = named_text(rest) else {
-            return self.note(self.line, "no file and bytes");
-        };
-        put(&mut self.store, self.alloc, name, "")?;
+    // Bytes that are written in hexadecimal, at the end of a file.
+    fn add_digits(&mut self, name: &str, digits: &str) -> Result<(), OutOfMemory> {
         for pair in digits.split(' ') {
             match u8::from_str_radix(pair, 16) {
                 Ok(byte) => add(&mut self.store, self.alloc, name, &[byte])?,
-                Err(_) => self.note(self.line, "no byte")?,
+                Err(_) => self.note(self.line, "no byte"),
             }
         }
         Ok(())
     }
 
+    // A file of the bytes that are written in hexadecimal.
+    fn take_bytes(&mut self, rest: &str) -> Result<(), OutOfMemory> {
+        match named_text(rest) {
+            Some((name, digits)) => {
+                put(&mut self.store, self.alloc, name, b"")?;
+                self.add_digits(name, digits)
+            }
+            None => {
+                self.note(self.line, "no file and bytes");
+                Ok(())
+            }
+        }
+    }
+
     // The calls that fail in the next row.
     fn take_fail(&mut self, rest: &str) -> Result<(), OutOfMemory> {
-        let Some((which, number)) = rest.split_once(' ') else {
-            return self.note(self.line, "no call and number");
-        };
+        let (which, number) = rest.split_once(' ').unwrap_or((rest, ""));
         match (which, number.parse::<u64>()) {
             ("read", Ok(number)) => self.failing_reads.push(number)?,
             ("write", Ok(number)) => self.failing_writes.push(number)?,
-            _ => self.note(self.line, "no call and number")?,
+            _ => self.note(self.line, "no call and number"),
         }
+        Ok(())
+    }
+
+    // The command of the rows that follow.
+    fn take_run(&mut self, command: &str) -> Result<(), OutOfMemory> {
+        self.command = String::from_str(self.alloc, command)?;
         Ok(())
     }
 
@@ -189,31 +253,30 @@ impl Script {
     fn take_word(&mut self, line: &str) -> Result<(), OutOfMemory> {
         let (word, rest) = line.split_once(' ').unwrap_or((line, ""));
         match word {
-            "" | "#" => Ok(()),
-            "file" => self.begin_file(rest),
-            "text" => self.take_text(rest),
-            "add" => self.take_times(rest, ""),
-            "lines" => self.take_times(rest, "\n"),
-            "bytes" => self.take_bytes(rest),
-            "fail" => self.take_fail(rest),
-            "run" => {
-                self.command = String::from_str(self.alloc, rest)?;
-                Ok(())
-            }
+            "" | "#" => {}
+            "file" => return self.begin_file(rest),
+            "text" => return self.take_text(rest),
+            "add" => return self.take_times(rest, ""),
+            "lines" => return self.take_times(rest, "\n"),
+            "bytes" => return self.take_bytes(rest),
+            "fail" => return self.take_fail(rest),
+            "run" => return self.take_run(rest),
             "=" => self.begin_row(rest, true),
             "!" => self.begin_row(rest, false),
             _ => self.note(self.line, "no such word"),
         }
+        Ok(())
     }
 
     /// Takes the next line.
-    pub fn take(&mut self, line: &str) -> Result<(), OutOfMemory> {
+    pub fn take(&mut self, line: &str) {
         self.line = self.line.saturating_add(1);
         match line.strip_prefix('|') {
             Some(part) => self.take_part(part.strip_prefix(' ').unwrap_or(part)),
             None => {
-                self.end_block()?;
-                self.take_word(line)
+                self.end_block();
+                let done = self.take_word(line);
+                self.note_fault(done);
             }
         }
     }

@@ -1,40 +1,31 @@
-//! How large the policy of a text is.
+//! How large a policy is.
 
-use crate::policies::fault_answer;
-use crate::texts::text_of;
-use merlin_base::OutOfMemory;
-use policy_parser::{Policy, Statement, parse};
-use std::alloc::Global;
+use crate::lines::Lines;
+use policy_parser::{Policy, Statement};
 
 // The first and the last id.
-fn add_ids(out: &mut String, statements: &[Statement]) -> Result<(), OutOfMemory> {
+fn add_ids(out: &mut Lines, statements: &[Statement]) {
     if let [first, ..] = statements {
-        write!(out, " {}", text_of(first.id.bytes()))?;
+        out.add(" ");
+        out.add_bytes(first.id.bytes());
     }
     if let [.., last] = statements {
-        write!(out, " to {}", text_of(last.id.bytes()))?;
+        out.add(" to ");
+        out.add_bytes(last.id.bytes());
     }
-    Ok(())
 }
 
-// Status 0, and in one line the number of statements with the first and the last id, whether there is a default, and the number of terms.
-fn described(alloc: Global, policy: &Policy) -> Result<String, OutOfMemory> {
+/// Status 0, and in one line the number of statements with the first and the last id, whether there is a default, and the number of terms.
+pub fn describe(out: &mut Lines, policy: &Policy) {
     let statements = policy.statements.as_slice();
-    let count = statements.len();
-    let mut out = format!(in alloc; "0\n{count} statements")?;
-    add_ids(&mut out, statements)?;
+    out.add("0\n");
+    out.add_number(statements.len() as u64);
+    out.add(" statements");
+    add_ids(out, statements);
     if policy.default_path.is_some() {
-        out.push_str(" and default")?;
+        out.add(" and default");
     }
-    let terms = policy.formula.terms.len();
-    write!(out, ", {terms} terms\n")?;
-    Ok(out)
-}
-
-/// `size|FILE`: how large the policy of a text is, or the fault.
-pub fn answer_to(alloc: Global, bytes: &[u8]) -> Result<String, OutOfMemory> {
-    match parse(alloc, bytes) {
-        Ok(policy) => described(alloc, &policy),
-        Err(fault) => fault_answer(alloc, &fault),
-    }
+    out.add(",");
+    out.add_numbers(&[policy.formula.terms.len() as u64]);
+    out.add(" terms\n");
 }

@@ -1,5 +1,6 @@
 //! The files of a row.
 
+use crate::lines::Lines;
 use merlin_base::{MemoryFiles, Name, OutOfMemory, name_from};
 use std::alloc::Global;
 use std::collections::BTreeMap;
@@ -8,30 +9,33 @@ use std::collections::BTreeMap;
 pub type Store = BTreeMap<String, Vec<u8>>;
 
 /// Sets the content of a file.
-pub fn put(store: &mut Store, alloc: Global, name: &str, content: &str) -> Result<(), OutOfMemory> {
-    let name = String::from_str(alloc, name)?;
-    let content = Vec::from_slice(alloc, content.as_bytes())?;
-    store.insert(name, content)?;
+pub fn put(
+    store: &mut Store,
+    alloc: Global,
+    name: &str,
+    content: &[u8],
+) -> Result<(), OutOfMemory> {
+    let content = Vec::from_slice(alloc, content)?;
+    store.insert(String::from_str(alloc, name)?, content)?;
     Ok(())
 }
 
 /// Adds to the end of a file. One that isn't there begins empty.
 pub fn add(store: &mut Store, alloc: Global, name: &str, piece: &[u8]) -> Result<(), OutOfMemory> {
-    let name = String::from_str(alloc, name)?;
-    let content = store.entry(name)?.or_insert(Vec::new(alloc));
-    content.extend_from_slice(piece)?;
-    Ok(())
+    match store.get_mut(name) {
+        Some(content) => Ok(content.extend_from_slice(piece)?),
+        None => put(store, alloc, name, piece),
+    }
 }
 
 // Adds the piece with a number in place of each `%`.
-fn add_numbered(text: &mut String, piece: &str, number: usize) -> Result<(), OutOfMemory> {
+fn add_numbered(text: &mut Lines, piece: &str, number: u64) {
     for (place, part) in piece.split('%').enumerate() {
         if place > 0 {
-            write!(text, "{number}")?;
+            text.add_number(number);
         }
-        text.push_str(part)?;
+        text.add(part);
     }
-    Ok(())
 }
 
 /// Adds a piece and an end so many times to a file, each time with its number, from 0, in place of each `%` of the piece.
@@ -41,14 +45,14 @@ pub fn add_times(
     name: &str,
     piece: &str,
     end: &str,
-    times: usize,
+    times: u64,
 ) -> Result<(), OutOfMemory> {
-    let mut text = String::new(alloc);
+    let mut text = Lines::new(alloc);
     for number in 0..times {
-        add_numbered(&mut text, piece, number)?;
-        text.push_str(end)?;
+        add_numbered(&mut text, piece, number);
+        text.add(end);
     }
-    add(store, alloc, name, text.as_bytes())
+    add(store, alloc, name, text.text().as_bytes())
 }
 
 /// The content of a file. One that isn't there is empty.
@@ -59,12 +63,27 @@ pub fn content<'a>(store: &'a Store, name: &str) -> &'a [u8] {
     }
 }
 
+// A file and its content.
+fn entry_of(
+    alloc: Global,
+    name: &String,
+    content: &Vec<u8>,
+) -> Result<(Name, Vec<u8>), OutOfMemory> {
+    let content = Vec::from_slice(alloc, content.as_slice())?;
+    Ok((name_from(alloc, name.as_bytes())?, content))
+}
+
+// The files of a store, in a list.
+fn entries(alloc: Global, store: &Store) -> Result<Vec<(Name, Vec<u8>)>, OutOfMemory> {
+    let mut entries = Vec::new(alloc);
+    for (name, content) in store {
+        entries.push(entry_of(alloc, name, content)?)?;
+    }
+    Ok(entries)
+}
+
 /// The files in memory. The calls whose numbers are listed fail.
 pub fn memory(alloc: Global, store: &Store, failing: &[u64]) -> Result<MemoryFiles, OutOfMemory> {
-    let mut entries: Vec<(Name, Vec<u8>)> = Vec::new(alloc);
-    for (name, content) in store {
-        let content = Vec::from_slice(alloc, content.as_slice())?;
-        entries.push((name_from(alloc, name.as_bytes())?, content))?;
-    }
-    Ok(MemoryFiles::new(entries, Vec::from_slice(alloc, failing)?))
+    let failing = Vec::from_slice(alloc, failing)?;
+    Ok(MemoryFiles::new(entries(alloc, store)?, failing))
 }

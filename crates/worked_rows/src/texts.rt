@@ -1,17 +1,10 @@
-//! Bytes as texts.
+//! Bytes as texts, and texts in parts.
 
-use merlin_base::OutOfMemory;
-use std::alloc::Global;
 use std::str;
 
 /// The bytes as a text, or a word that says that they are none.
 pub fn text_of(bytes: &[u8]) -> &str {
     str::from_utf8(bytes).unwrap_or("no text")
-}
-
-/// A status and one line.
-pub fn answer_of(alloc: Global, status: u8, line: &str) -> Result<String, OutOfMemory> {
-    Ok(format!(in alloc; "{status}\n{line}\n")?)
 }
 
 /// The word for whether something is so.

@@ -1,6 +1,6 @@
 //! The tokens of a policy text.
 
-use merlin_base::OutOfMemory;
+use crate::lines::Lines;
 use merlin_text::{Kind, Sign, Token, TokenFault, Word, tokens};
 use std::alloc::Global;
 
@@ -42,42 +42,61 @@ fn sign_text(sign: Sign) -> &'static str {
     }
 }
 
-// Adds a token: its kind, what it stands for, and the bytes from its first to the one behind its last.
-fn add_token(out: &mut String, token: &Token) -> Result<(), OutOfMemory> {
-    match token.kind {
-        Kind::Name => out.push_str("name")?,
-        Kind::Word(word) => write!(out, "word {}", word_text(word))?,
-        Kind::Number(number) => write!(out, "number {number}")?,
-        Kind::Rate(rate) => write!(out, "rate {rate}")?,
-        Kind::Mac(mac) => write!(out, "mac {mac}")?,
-        Kind::Ip(ip) => write!(out, "ip {ip}")?,
-        Kind::Prefix { value, length } => write!(out, "prefix {value}/{length}")?,
-        Kind::Sign(sign) => write!(out, "sign {}", sign_text(sign))?,
+// A word, and a text or a number that tells a token from others of its kind.
+fn add_value(out: &mut Lines, word: &str, value: u64) {
+    out.add(word);
+    out.add_numbers(&[value]);
+}
+
+fn add_text(out: &mut Lines, word: &str, text: &str) {
+    out.add(word);
+    out.add(text);
+}
+
+// What a token is.
+fn add_kind(out: &mut Lines, kind: Kind) {
+    match kind {
+        Kind::Name => out.add("name"),
+        Kind::Word(word) => add_text(out, "word ", word_text(word)),
+        Kind::Number(number) => add_value(out, "number", u64::from(number)),
+        Kind::Rate(rate) => add_value(out, "rate", rate),
+        Kind::Mac(mac) => add_value(out, "mac", mac),
+        Kind::Ip(ip) => add_value(out, "ip", u64::from(ip)),
+        Kind::Prefix { value, .. } => add_value(out, "prefix", u64::from(value)),
+        Kind::Sign(sign) => add_text(out, "sign ", sign_text(sign)),
     }
-    let (start, end) = (token.span.start, token.span.end);
-    write!(out, " {start}-{end}")?;
-    Ok(())
+}
+
+// Adds a token: its kind, what it stands for, and the bytes from its first to the one behind its last.
+fn add_token(out: &mut Lines, token: &Token) {
+    add_kind(out, token.kind);
+    if let Kind::Prefix { length, .. } = token.kind {
+        out.add("/");
+        out.add_number(u64::from(length));
+    }
+    out.add_numbers(&[token.span.start as u64]);
+    out.add("-");
+    out.add_number(token.span.end as u64);
 }
 
 // All tokens, in one line.
-fn listed(alloc: Global, tokens: &[Token]) -> Result<String, OutOfMemory> {
-    let mut out = String::from_str(alloc, "0\n")?;
+fn add_tokens(out: &mut Lines, tokens: &[Token]) {
+    out.add("0\n");
     for (place, token) in tokens.iter().enumerate() {
         if place > 0 {
-            out.push_str("; ")?;
+            out.add("; ");
         }
-        add_token(&mut out, token)?;
+        add_token(out, token);
     }
-    out.push('\n')?;
-    Ok(out)
+    out.add("\n");
 }
 
 /// `tokens|FILE`: the tokens of a text, or its first fault.
-pub fn answer_to(alloc: Global, bytes: &[u8]) -> Result<String, OutOfMemory> {
+pub fn answer_to(alloc: Global, bytes: &[u8], out: &mut Lines) {
     match tokens(alloc, bytes) {
-        Ok(tokens) => listed(alloc, &tokens),
-        Err(TokenFault::BadByte { at }) => Ok(format!(in alloc; "1\nbyte at {at}\n")?),
-        Err(TokenFault::BadNumber { at }) => Ok(format!(in alloc; "1\nnumber at {at}\n")?),
-        Err(TokenFault::OutOfMemory) => Err(OutOfMemory),
+        Ok(tokens) => add_tokens(out, &tokens),
+        Err(TokenFault::BadByte { at }) => out.answer_at("byte", at),
+        Err(TokenFault::BadNumber { at }) => out.answer_at("number", at),
+        Err(TokenFault::OutOfMemory) => out.cut(),
     }
 }

@@ -1,105 +1,104 @@
 //! Which statements a packet belongs to, and whether rates meet a formula.
 
+use crate::lines::Lines;
 use crate::packets::packet_from;
-use crate::policies::fault_answer;
-use crate::store::{Store, content};
-use crate::texts::{answer_of, parted, text_of, verdict};
+use crate::texts::verdict;
 use merlin_base::{Name, OutOfMemory, name_from};
+use merlin_model::policy::Pred;
 use packet_model::Packet;
-use policy_parser::{Policy, Statement, parse};
+use policy_parser::{Policy, Statement};
 use predicate_logic::holds;
-use rate_formula::meets;
+use rate_formula::{Formula, meets};
 use std::alloc::Global;
 
-// The line of a statement: its id, and whether its predicate holds of the packet, and so does an equal predicate.
-fn add_verdict(
-    alloc: Global,
-    out: &mut String,
-    statement: &Statement,
-    packet: &Packet,
-) -> Result<(), OutOfMemory> {
-    let does_hold = holds(&statement.pred, packet);
-    let copy = statement.pred.copy(alloc)?;
-    write!(
-        out,
-        "{} {}",
-        text_of(statement.id.bytes()),
-        verdict(does_hold)
-    )?;
-    if holds(&copy, packet) != does_hold {
-        out.push_str(" and no")?;
+// Whether an equal predicate says the same of the packet. It is so too where memory runs out.
+fn copy_agrees(alloc: Global, pred: &Pred, packet: &Packet, does_hold: bool) -> bool {
+    match pred.copy(alloc) {
+        Ok(copy) => holds(&copy, packet) == does_hold,
+        Err(_) => true,
     }
-    out.push('\n')?;
-    Ok(())
+}
+
+// The line of a statement: its id, and whether its predicate holds of the packet, and so does an equal predicate.
+fn add_verdict(alloc: Global, out: &mut Lines, statement: &Statement, packet: &Packet) {
+    let does_hold = holds(&statement.pred, packet);
+    out.add_bytes(statement.id.bytes());
+    out.add(" ");
+    out.add(verdict(does_hold));
+    if !copy_agrees(alloc, &statement.pred, packet, does_hold) {
+        out.add(" and no");
+    }
+    out.add("\n");
 }
 
 // Status 0 and a line for each statement.
-fn verdicts(alloc: Global, policy: &Policy, packet: &Packet) -> Result<String, OutOfMemory> {
-    let mut out = String::from_str(alloc, "0\n")?;
+fn add_verdicts(alloc: Global, out: &mut Lines, policy: &Policy, packet: &Packet) {
+    out.add("0\n");
     for statement in policy.statements.as_slice() {
-        add_verdict(alloc, &mut out, statement, packet)?;
-    }
-    Ok(out)
-}
-
-/// `holds|FILE|PACKET`: for each statement of a policy whether its predicate holds of the packet.
-pub fn predicates(alloc: Global, words: &str, store: &Store) -> Result<String, OutOfMemory> {
-    let (file, text) = parted(words);
-    let Some(packet) = packet_from(text) else {
-        return answer_of(alloc, 1, "no packet");
-    };
-    match parse(alloc, content(store, file)) {
-        Ok(policy) => verdicts(alloc, &policy, &packet),
-        Err(fault) => fault_answer(alloc, &fault),
+        add_verdict(alloc, out, statement, packet);
     }
 }
 
-/// The rates of some statements in kbit/s: those of the ids, in their order.
-#[derive(Drop)]
-struct Usage {
-    ids: Vec<Name>,
-    rates: Vec<u64>,
+/// For each statement of a policy whether its predicate holds of the packet.
+pub fn predicates(alloc: Global, policy: &Policy, packet: &str, out: &mut Lines) {
+    match packet_from(packet) {
+        Some(packet) => add_verdicts(alloc, out, policy, &packet),
+        None => out.answer(1, "no packet"),
+    }
 }
 
-// Adds what a word says, as `x=20`.
-fn add_rate(alloc: Global, usage: &mut Usage, word: &str) -> Result<(), OutOfMemory> {
-    let (id, rate) = word.split_once('=').unwrap_or((word, ""));
-    usage.ids.push(name_from(alloc, id.as_bytes())?)?;
-    usage.rates.push(rate.parse::<u64>().unwrap_or(0))?;
-    Ok(())
+// The id and the rate of a word such as `x=20`.
+fn halves(word: &str) -> (&str, &str) {
+    word.split_once('=').unwrap_or((word, ""))
 }
 
-fn usage_of(alloc: Global, words: &str) -> Result<Usage, OutOfMemory> {
-    let mut usage = Usage {
-        ids: Vec::new(alloc),
-        rates: Vec::new(alloc),
-    };
+// The ids of words such as `x=20`.
+fn ids_of(alloc: Global, words: &str) -> Result<Vec<Name>, OutOfMemory> {
+    let mut ids = Vec::new(alloc);
     for word in words.split('|') {
-        add_rate(alloc, &mut usage, word)?;
+        ids.push(name_from(alloc, halves(word).0.as_bytes())?)?;
     }
-    Ok(usage)
+    Ok(ids)
 }
 
-// Whether the rates meet the formula, and an equal one.
-fn meeting(alloc: Global, policy: &Policy, usage: &Usage) -> Result<String, OutOfMemory> {
-    let (ids, rates) = (usage.ids.as_slice(), usage.rates.as_slice());
+// Their rates in kbit/s.
+fn rates_of(alloc: Global, words: &str) -> Result<Vec<u64>, OutOfMemory> {
+    let mut rates = Vec::new(alloc);
+    for word in words.split('|') {
+        rates.push(halves(word).1.parse::<u64>().unwrap_or(0))?;
+    }
+    Ok(rates)
+}
+
+// Whether the rates meet the formula.
+fn answer_meeting(formula: &Formula, ids: &[Name], rates: &[u64], out: &mut Lines) {
     if ids.len() != rates.len() {
-        return answer_of(alloc, 1, "no rate for each id");
-    }
-    let copy = policy.formula.copy(alloc)?;
-    match (meets(&policy.formula, ids, rates), meets(&copy, ids, rates)) {
-        (true, true) => answer_of(alloc, 0, "yes"),
-        (false, false) => answer_of(alloc, 0, "no"),
-        _ => answer_of(alloc, 1, "the copy is another formula"),
+        out.answer(1, "no rate for each id");
+    } else {
+        out.answer(0, verdict(meets(formula, ids, rates)));
     }
 }
 
-/// `meets|FILE|ID=RATE|..`: whether these rates meet the formula of a policy, where any other id uses none.
-pub fn formula(alloc: Global, words: &str, store: &Store) -> Result<String, OutOfMemory> {
-    let (file, words) = parted(words);
-    let usage = usage_of(alloc, words)?;
-    match parse(alloc, content(store, file)) {
-        Ok(policy) => meeting(alloc, &policy, &usage),
-        Err(fault) => fault_answer(alloc, &fault),
+// Whether these ids with the rates of the words meet the formula.
+fn answer_ids(alloc: Global, formula: &Formula, ids: &[Name], words: &str, out: &mut Lines) {
+    match rates_of(alloc, words) {
+        Ok(rates) => answer_meeting(formula, ids, &rates, out),
+        Err(_) => out.cut(),
+    }
+}
+
+// Whether the ids and rates of these words meet the formula.
+fn answer_usage(alloc: Global, formula: &Formula, words: &str, out: &mut Lines) {
+    match ids_of(alloc, words) {
+        Ok(ids) => answer_ids(alloc, formula, &ids, words, out),
+        Err(_) => out.cut(),
+    }
+}
+
+/// Whether the rates of these words meet the formula of a policy, of which a copy is made.
+pub fn formula(alloc: Global, policy: &Policy, words: &str, out: &mut Lines) {
+    match policy.formula.copy(alloc) {
+        Ok(copy) => answer_usage(alloc, &copy, words, out),
+        Err(_) => out.cut(),
     }
 }

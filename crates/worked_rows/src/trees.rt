@@ -1,56 +1,64 @@
 //! Programs and the trees that are to refute them.
 
+use crate::lines::Lines;
 use crate::store::{Store, content};
-use crate::texts::{answer_of, parted, text_of};
-use certificate::new as checker_of;
+use crate::texts::parted;
+use certificate::{Checker, new as checker_of};
 use certificate_text::{ProgramTextFault, TreeTextFault, print_tree, read_program, read_tree};
 use integer_program::PlainProgram;
-use merlin_base::OutOfMemory;
 use merlin_model::certificate::Tree;
 use std::alloc::Global;
 
 // What the checker says, twice in turn.
-fn verdict_on(alloc: Global, program: &PlainProgram, tree: &Tree) -> Result<String, OutOfMemory> {
-    let mut checker = checker_of(alloc, program)?;
+fn answer_verdict(checker: &mut Checker<'_, PlainProgram>, tree: &Tree, out: &mut Lines) {
     match (checker.refutes(tree, None), checker.refutes(tree, None)) {
-        (Ok(()), Ok(())) => answer_of(alloc, 0, "refuted"),
+        (Ok(()), Ok(())) => out.answer(0, "refuted"),
         (Err(first), Err(again)) if first.node == again.node => {
-            Ok(format!(in alloc; "5\nno {}\n", first.node)?)
+            out.add("5\nno");
+            out.add_numbers(&[first.node as u64]);
+            out.add("\n");
         }
-        _ => answer_of(alloc, 5, "no, and then otherwise"),
+        _ => out.answer(5, "no, and then otherwise"),
     }
 }
 
-// The verdict on a tree that is printed as it stood.
-fn of_tree(
-    alloc: Global,
-    program: &PlainProgram,
-    tree: &Tree,
-    text: &[u8],
-) -> Result<String, OutOfMemory> {
-    let printed = print_tree(alloc, tree)?;
-    if printed.bytes() == text {
-        verdict_on(alloc, program, tree)
-    } else {
-        answer_of(alloc, 1, text_of(printed.bytes()))
+// The verdict on a tree.
+fn of_tree(alloc: Global, program: &PlainProgram, tree: &Tree, out: &mut Lines) {
+    match checker_of(alloc, program) {
+        Ok(mut checker) => answer_verdict(&mut checker, tree, out),
+        Err(_) => out.cut(),
     }
 }
 
-fn of_program(alloc: Global, program: &PlainProgram, text: &[u8]) -> Result<String, OutOfMemory> {
+// Whether the tree is printed as it stood. If it is not, that is the answer.
+fn is_printed_as(alloc: Global, tree: &Tree, text: &[u8], out: &mut Lines) -> bool {
+    let mut printed = Lines::new(alloc);
+    printed.add_name(print_tree(alloc, tree));
+    let is_same = printed.text().as_bytes() == text;
+    if !is_same {
+        out.answer(1, printed.text());
+    }
+    is_same
+}
+
+fn of_program(alloc: Global, program: &PlainProgram, text: &[u8], out: &mut Lines) {
     match read_tree(alloc, text) {
-        Ok(tree) => of_tree(alloc, program, &tree, text),
-        Err(TreeTextFault::BadTree { at }) => Ok(format!(in alloc; "1\ntree at {at}\n")?),
-        Err(TreeTextFault::OutOfMemory) => Err(OutOfMemory),
+        Ok(tree) => {
+            if is_printed_as(alloc, &tree, text, out) {
+                of_tree(alloc, program, &tree, out);
+            }
+        }
+        Err(TreeTextFault::BadTree { at }) => out.answer_at("tree", at),
+        Err(TreeTextFault::OutOfMemory) => out.cut(),
     }
 }
 
 /// `tree|PROGRAM|TREE`: whether the tree refutes the program, or where a text is wrong.
-pub fn answer_to(alloc: Global, words: &str, store: &Store) -> Result<String, OutOfMemory> {
+pub fn answer_to(alloc: Global, words: &str, store: &Store, out: &mut Lines) {
     let (program, tree) = parted(words);
-    let tree = content(store, tree);
     match read_program(alloc, content(store, program)) {
-        Ok(program) => of_program(alloc, &program, tree),
-        Err(ProgramTextFault::BadProgram { at }) => Ok(format!(in alloc; "1\nprogram at {at}\n")?),
-        Err(ProgramTextFault::OutOfMemory) => Err(OutOfMemory),
+        Ok(program) => of_program(alloc, &program, content(store, tree), out),
+        Err(ProgramTextFault::BadProgram { at }) => out.answer_at("program", at),
+        Err(ProgramTextFault::OutOfMemory) => out.cut(),
     }
 }

@@ -1,4 +1,4 @@
 use Rattle.contract_edits.proofs.automata.is_accepting.Goals as goal
 
 pub returns : goal.returns
-returns c = c.accepts.ensures
+returns c = (assumption)

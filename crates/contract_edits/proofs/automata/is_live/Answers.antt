@@ -1,4 +1,4 @@
 use Rattle.contract_edits.proofs.automata.is_live.Goals as goal
 
 pub returns : goal.returns
-returns c = c.live.ensures
+returns c = (assumption)

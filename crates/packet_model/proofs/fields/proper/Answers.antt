@@ -1,5 +1,5 @@
 use Rattle.std.proofs.Common.{rules}
-use Rattle.packet_model.proofs.fields.is_proper.Goals as goal
+use Rattle.packet_model.proofs.fields.proper.Goals as goal
 
 pub returns-then-packet-dst-clause-between : goal.returns-then-packet-dst-clause-between
 returns-then-packet-dst-clause-between c = search rules

@@ -6,7 +6,7 @@ use Rattle.language_check.specs.Inclusion.{IsLeastStrayWalk, forwards}
 use Rattle.language_check.specs.Trails.{Grounds, IsLeastTrail}
 use Rattle.language_check.specs.Ways.{grounds_of}
 use Rattle.language_check.proofs.Walks.{included-none, included-some, trail-inside}
-use Rattle.language_check.proofs.inclusion.least_stray_walk.Goals as goal
+use Rattle.language_check.proofs.inclusion.included.Goals as goal
 
 pub returns-in-None : goal.returns-in-None
 returns-in-None c =

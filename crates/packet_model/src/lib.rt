@@ -5,7 +5,7 @@ mod fields;
 mod printing;
 mod reading;
 
-pub use fields::{Packet, proper, packet_of};
+pub use fields::{Packet, packet_of, proper};
 pub use merlin_model::network::HostAddress;
 pub use merlin_model::policy::Field;
 pub use printing::print_packet;

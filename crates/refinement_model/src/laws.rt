@@ -10,8 +10,8 @@ ghost use Rattle.merlin_model.specs.Networks.{Network, AreDifferent};
 ghost use Rattle.merlin_model.specs.Policies.{Policy};
 ghost use Rattle.merlin_model.specs.Rates.{max_of, min_of, ids_of, amount_of, rate_of_id};
 ghost use Rattle.refinement_model.specs.Refinement.{Refines, IsIn, IsAllowedTraffic, rate_of, AreTouching, KeepsCap, KeepsReserve, IsAtMost, sum_of_caps};
-ghost use Rattle.refinement_model.specs.Localised.{localised, HasDifferentIds, RefinesEach, ActsAs};
-ghost use Rattle.refinement_model.specs.Delegation.{Child, Node, IsPlain, HasIds, AreChildren, IsTotal, join, scopes_of, is_outside, IsTree, AreCompositions, IsAcceptedWith, IsLocallyAccepted};
+ghost use Rattle.refinement_model.specs.Localised.{localised_form, HasDifferentIds, RefinesEach, ActsAs};
+ghost use Rattle.refinement_model.specs.Delegation.{Child, DelegationNode, IsPlain, HasIds, AreChildren, HasStatementForEach, join, scopes_of, is_outside, IsDelegationTree, AreCompositions, IsAcceptedWith, IsLocallyAccepted, IsFinerChild};
 
 /// What the child allows keeps the parent's `max` terms, where each statement of the child keeps to its maximum.
 pub fn refined_usage_keeps_caps()
@@ -40,32 +40,32 @@ pub fn refined_usage_keeps_reserves()
 /// The localised form of a policy has its rates.
 pub fn localised_rates()
     ensures caps { (policy : Policy) (i : ℕ) → HasDifferentIds policy →
-        max_of (localised policy) i ≡ max_of policy i }
+        max_of (localised_form policy) i ≡ max_of policy i }
     ensures guarantees { (policy : Policy) (i : ℕ) → HasDifferentIds policy →
-        min_of (localised policy) i ≡ min_of policy i }
+        min_of (localised_form policy) i ≡ min_of policy i }
 {}
 
 /// A policy refines its localised form.
 pub fn policy_refines_its_localised_form()
     ensures { (net : Network) (policy : Policy) → HasDifferentIds policy →
-        Refines net (localised policy) policy }
+        Refines net (localised_form policy) policy }
 {}
 
 /// Refinement of a localised form goes statement by statement.
 pub fn localised_refinement()
     ensures each { (net : Network) (parent child : Policy) → HasDifferentIds parent →
-        Refines net (localised parent) child → RefinesEach net parent child }
+        Refines net (localised_form parent) child → RefinesEach net parent child }
     ensures from { (net : Network) (parent child : Policy) → HasDifferentIds parent →
-        RefinesEach net parent child → Refines net (localised parent) child }
+        RefinesEach net parent child → Refines net (localised_form parent) child }
 {}
 
 /// Refinement between localised forms is transitive.
 pub fn refinement_is_transitive()
     ensures { (net : Network) (first second third : Policy) → HasDifferentIds first →
         HasDifferentIds second → HasDifferentIds third →
-        Refines net (localised first) (localised second) →
-        Refines net (localised second) (localised third) →
-        Refines net (localised first) (localised third) }
+        Refines net (localised_form first) (localised_form second) →
+        Refines net (localised_form second) (localised_form third) →
+        Refines net (localised_form first) (localised_form third) }
 {}
 
 /// The ids of a join differ, none is `default`, and each packet has a statement of it.
@@ -73,7 +73,7 @@ pub fn join_is_sound()
     ensures ids { (policy : Policy) (children : List Child) → IsPlain policy →
         AreChildren children → HasIds (join policy children) }
     ensures total { (policy : Policy) (children : List Child) → IsPlain policy →
-        AreChildren children → IsTotal (join policy children) }
+        AreChildren children → HasStatementForEach (join policy children) }
 {}
 
 /// Within the scope of a child a join does to packets what the child does, and outside all scopes what the policy itself does.
@@ -90,23 +90,25 @@ pub fn join_acts()
 pub fn finer_children_refine_the_join()
     ensures { (net : Network) (policy : Policy) (coarse fine : List Child) → IsPlain policy →
         AreChildren coarse → AreChildren fine →
-        AllZip (λ c f. (c.name ≡ f.name) × (c.scope ≡ f.scope) × Refines net (localised c.policy) f.policy) coarse fine →
+        AllZip (IsFinerChild net) coarse fine →
         Refines net (join policy coarse) (join policy fine) }
 {}
 
 /// Where each node of a tree is accepted by itself, each is accepted, however deep the tree is, and the composition of each refines its own policy.
 pub fn local_acceptance_suffices()
-    ensures accepted { (net : Network) (nodes : List Node) (compositions : List Policy) →
-        IsTree nodes → AreCompositions nodes compositions → ((k : ℕ) (node : Node) →
+    ensures accepted { (net : Network) (nodes : List DelegationNode) (compositions : List Policy) →
+        IsDelegationTree nodes → AreCompositions nodes compositions →
+        ((k : ℕ) (node : DelegationNode) →
         slice_get nodes k ≡ Some node → IsLocallyAccepted net nodes k node) → (k : ℕ)
-        (node : Node) → slice_get nodes k ≡ Some node →
+        (node : DelegationNode) → slice_get nodes k ≡ Some node →
         IsAcceptedWith net nodes compositions k node }
-    ensures refines { (net : Network) (nodes : List Node) (compositions : List Policy) →
-        IsTree nodes → AreCompositions nodes compositions → ((k : ℕ) (node : Node) →
+    ensures refines { (net : Network) (nodes : List DelegationNode) (compositions : List Policy) →
+        IsDelegationTree nodes → AreCompositions nodes compositions →
+        ((k : ℕ) (node : DelegationNode) →
         slice_get nodes k ≡ Some node → IsLocallyAccepted net nodes k node) → (k : ℕ)
-        (node : Node) (composition : Policy) → slice_get nodes k ≡ Some node →
+        (node : DelegationNode) (composition : Policy) → slice_get nodes k ≡ Some node →
         slice_get compositions k ≡ Some composition →
-        Refines net (localised node.policy) composition }
+        Refines net (localised_form node.policy) composition }
 {}
 
 /// Where all that touch a term are known, their sum decides: whoever has the list needs no other.
@@ -121,6 +123,7 @@ pub fn all_touching_decide()
 
 /// A tree has one list of compositions at most.
 pub fn one_composition()
-    ensures { (nodes : List Node) (compositions others : List Policy) → IsTree nodes →
+    ensures { (nodes : List DelegationNode) (compositions others : List Policy) →
+        IsDelegationTree nodes →
         AreCompositions nodes compositions → AreCompositions nodes others → compositions ≡ others }
 {}

@@ -5,9 +5,9 @@ use Rattle.std.proofs.lemmas.Bool.{eqb-true}
 use Rattle.merlin_model.specs.declared.policy.Path.{Path, Nothing}
 use Rattle.merlin_model.proofs.Members.{all_both}
 use Rattle.path_automaton.specs.States.{with_new}
-use Rattle.path_automaton.specs.Shared.{form_at, AreDistinct, AreFound, AddsForms}
+use Rattle.path_regex.specs.Shared.{form_at, AreDistinct, AreFound, AddsForms}
 use Rattle.path_automaton.proofs.Places.{is, is-same, is-itself, false-true}
-use Rattle.path_automaton.proofs.Sharing.{kept, within}
+use Rattle.path_regex.proofs.Sharing.{kept, within}
 
 pub found-kept : {old new : List Path} → AddsForms old new → (ks : List ℕ) → AreFound old ks → AreFound new ks
 found-kept g [] h = tt

@@ -9,7 +9,4 @@ pub mod Building
 pub mod Tables
 pub mod Numbering
 pub mod Listed
-mod Sharing
-mod Ranked
-mod Joined
 mod Found

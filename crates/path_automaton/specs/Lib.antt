@@ -1,5 +1,4 @@
 pub mod States
-pub mod Shared
 pub mod Automata
 pub mod SeenSymbols
 pub mod Classes

@@ -3,15 +3,11 @@
 
 mod automaton;
 mod classes;
-mod comparing;
 mod exploring;
 mod fault;
-mod forms;
-mod joining;
 pub mod laws;
 mod living;
 mod states;
-mod stepping;
 
 pub use automaton::{Automaton, build};
 pub use exploring::MAX_STATES;

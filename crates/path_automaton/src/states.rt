@@ -7,10 +7,10 @@ ghost use Rattle.path_regex.specs.Normal.{normal_of};
 ghost use Rattle.path_regex.specs.Derivatives.{takes_empty, derivative_of};
 ghost use Rattle.path_automaton.specs.States.{with_new};
 
-use crate::forms::Forms;
 use indexmap::IndexSet;
 use merlin_model::OutOfMemory;
 use merlin_model::policy::{Path, Symbol};
+use path_regex::forms::Forms;
 use std::alloc::Global;
 use std::marker::Model;
 
@@ -26,7 +26,7 @@ impl Model for States {
     ghost use Rattle.std.specs.Coded.{coded_list};
     ghost use Rattle.merlin_model.specs.contracts.policy.Path as p;
     ghost use Rattle.merlin_model.specs.declared.policy.Path.{Path};
-    ghost use Rattle.path_automaton.specs.Shared.{form_at, AreFound};
+    ghost use Rattle.path_regex.specs.Shared.{form_at, AreFound};
 
     ghost Value = { List Path };
 

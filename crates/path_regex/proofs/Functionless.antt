@@ -1,7 +1,7 @@
 -- Paths without functions, and functions under a Not: kept by normal forms and derivatives.
 use Rattle.std.proofs.Common.{refl}
 use Rattle.merlin_model.specs.declared.policy.Symbol.{Symbol}
-use Rattle.merlin_model.specs.declared.policy.Path.{Path, Nothing, Empty, Dot, Loc, Fun, Cat', Alt, Alt', Star', Not', Row_of-Path, end_of-Path, more_of-Path}
+use Rattle.merlin_model.specs.declared.policy.Path.{Path, Nothing, Empty, Dot, Loc, Fun, Cat', Alt', Star', Not', Row_of-Path, end_of-Path, more_of-Path}
 use Rattle.merlin_model.specs.declared.policy.Path.TheBlock.{hidden-the_row-Path-0, hidden-the_row-Path-1}
 use denote.Hole.Carrier.{hidden}
 use Rattle.path_regex.specs.Normal.{not_of, normal_of}

@@ -8,3 +8,6 @@ pub mod Meanings
 pub mod Normality
 pub mod Ascending
 pub mod Results
+pub mod Sharing
+pub mod Ranked
+pub mod Joined

@@ -2,10 +2,9 @@
 use Rattle.std.proofs.Common.{◌≡◌, ◌<◌, ℕ, suc, length, get_or, drop, drop-cons, true, not, ◌&&◌, ◌||◌, List, [], ◌∷◌, ◌++◌, map, append_assoc, append-nil, refl, sym, ◌∙◌, ap}
 use Rattle.std.specs.List.{flat_map, list_any}
 use Rattle.merlin_model.specs.declared.policy.Symbol.{Symbol}
-use Rattle.merlin_model.specs.declared.policy.Path.{Path, Nothing, Empty, Cat, Cat', Alt, Alt', Star, Star', Not, Not', Row_of-Path, end_of-Path, more_of-Path}
+use Rattle.merlin_model.specs.declared.policy.Path.{Path, Cat, Alt, Alt', Star, Not}
 use Rattle.merlin_model.specs.declared.policy.Path.TheBlock.{hidden-the_row-Path-0, hidden-the_row-Path-1}
 use denote.Hole.Carrier.{hidden}
-use Rattle.path_regex.specs.Parts.{listed, Alt-listed}
 use Rattle.path_regex.specs.Normal.{grouped_cat, cat_of, members, added, added_all, alt_of, star_of, not_of, normal_of, normals}
 use Rattle.path_regex.specs.Derivatives.{takes_empty, with_next, not_if, has_no_function, derivative_of, derivatives}
 
@@ -25,40 +24,6 @@ pub members-Alt : (paths : List Path) → members (Alt paths) ≡ paths
 unfolding hidden-the_row-Path-0 hidden-the_row-Path-1 hidden
 members-Alt [] = refl
 members-Alt (a ∷ paths) = ap (λ l. a ∷ l) (members-Alt paths)
-
--- What the other variants give.
-
-pub before-other : (a b : Path) → (a ≡ Nothing → ⊥) → (a ≡ Empty → ⊥) → ((c d : Path) → a ≡ Cat c d → ⊥) → grouped_cat a b ≡ Cat a b
-unfolding hidden-the_row-Path-1 hidden
-before-other Nothing b n e h = absurd (n refl)
-before-other Empty b n e h = absurd (e refl)
-before-other (Cat' s (more_of-Path c end_of-Path) t (more_of-Path d end_of-Path)) b n e h = absurd (h c d refl)
-before-other a b n e h = refl
-
-pub cat_of-other : (a b : Path) → (b ≡ Nothing → ⊥) → (b ≡ Empty → ⊥) → cat_of a b ≡ grouped_cat a b
-cat_of-other a Nothing n e = absurd (n refl)
-cat_of-other a Empty n e = absurd (e refl)
-cat_of-other a b n e = refl
-
-pub members-other : (a : Path) → (a ≡ Nothing → ⊥) → ((paths : List Path) → a ≡ Alt paths → ⊥) → members a ≡ a ∷ []
-members-other Nothing n h = absurd (n refl)
-members-other (Alt' s row) n h = absurd (h _ (alt s row))
-  where
-    alt : (s : _) (row : Row_of-Path _) → Alt' s row ≡ Alt (listed row)
-    alt s row = Alt-listed s row
-members-other a n h = refl
-
-pub star_of-other : (a : Path) → (a ≡ Nothing → ⊥) → (a ≡ Empty → ⊥) → ((b : Path) → a ≡ Star b → ⊥) → star_of a ≡ Star a
-unfolding hidden-the_row-Path-1 hidden
-star_of-other Nothing n e h = absurd (n refl)
-star_of-other Empty n e h = absurd (e refl)
-star_of-other (Star' s (more_of-Path c end_of-Path)) n e h = absurd (h c refl)
-star_of-other a n e h = refl
-
-pub not_of-other : (a : Path) → ((b : Path) → a ≡ Not b → ⊥) → not_of a ≡ Not a
-unfolding hidden-the_row-Path-1 hidden
-not_of-other (Not' s (more_of-Path c end_of-Path)) h = absurd (h c refl)
-not_of-other a h = refl
 
 -- Lists put in their places.
 
@@ -96,10 +61,6 @@ normals-Alt (a ∷ paths) = ap (λ l. normal_of a ∷ l) (normals-Alt paths)
 pub normal_of-Alt : (paths : List Path) → normal_of (Alt paths) ≡ alt_of (map normal_of paths)
 unfolding hidden-the_row-Path-0 hidden-the_row-Path-1 hidden
 normal_of-Alt paths = ap alt_of (normals-Alt paths)
-
-pub cat_of-Nothing : (b : Path) → cat_of Nothing b ≡ Nothing
-cat_of-Nothing Empty = refl
-cat_of-Nothing b = refl
 
 pub takes_empty-Cat : (a b : Path) → takes_empty (Cat a b) ≡ (takes_empty a && takes_empty b)
 unfolding hidden-the_row-Path-1 hidden

@@ -5,3 +5,4 @@ pub mod Derivatives
 pub mod Functions
 pub mod Languages
 pub mod States
+pub mod Shared

@@ -1,6 +1,6 @@
 -- The normal form of a path.
-use Rattle.std.specs.Prelude.{ℕ, ◌≡◌, ◌≤◌, List, [], ◌∷◌, length, Option, None, Some}
-use Rattle.std.specs.List.{flat_map, insert}
+use Rattle.std.specs.Prelude.{◌≡◌, List, [], ◌∷◌}
+use Rattle.std.specs.List.{flat_map}
 use Rattle.std.specs.Ordering.{match_ordering}
 use Rattle.merlin_model.specs.declared.policy.Path.{Path, Nothing, Empty, Dot, Loc, Fun, Cat, Cat', Alt, Alt', Star, Star', Not, Not', Row_of-Path, end_of-Path, more_of-Path}
 use Rattle.path_regex.specs.Parts.{listed}
@@ -29,11 +29,6 @@ members a = a ∷ []
 abbrev pub added : Path → List Path → List Path
 added a [] = a ∷ []
 added a (b ∷ rest) = match_ordering (order a b) (a ∷ b ∷ rest) (b ∷ rest) (b ∷ added a rest)
-
--- where a path is to be put among others in order: at a place, or nowhere, since it is there
-abbrev pub IsPlaceFor : Path → List Path → Option ℕ → Type 0
-IsPlaceFor a others None = added a others ≡ others
-IsPlaceFor a others (Some at) = (at ≤ length others) × (added a others ≡ insert others at a)
 
 -- paths put in their places among others in order
 abbrev pub added_all : List Path → List Path → List Path

@@ -1,115 +1,115 @@
-//! Normal forms, derivatives and the empty word, by the parts of a path: Brzozowski's derivatives of
-//! regular expressions (1964), each put into normal form at once.
+//! Paths that share their parts: each is kept once, and is named by its place (hash consing, Ershov 1958).
 
-ghost use Rattle.std.specs.Prelude.{◌≡◌, IfOk, map};
-ghost use Rattle.path_regex.specs.Normal.{cat_of as cat, normal_of};
-ghost use Rattle.path_regex.specs.Derivatives.{takes_empty as takes, empty_if as when};
-ghost use Rattle.path_regex.specs.Derivatives.{derivative_of};
+ghost use Rattle.std.specs.Prelude.{◌≡◌, ◌<◌, [], length, IfOk, IfSome};
+ghost use Rattle.path_regex.specs.Order.{order};
+ghost use Rattle.path_regex.specs.Shared.{meaning, PartsStandBefore, IsNode, AreDistinct};
+ghost use Rattle.path_regex.specs.Shared.{AddsForms, IsFormAt, form_at};
 
-use crate::copies::copy;
-use crate::parts::{alt_of, cat_of, not_of, star_of};
+use indexmap::{IndexMap, IndexSet};
 use merlin_model::OutOfMemory;
-use merlin_model::policy::{Path, Symbol};
-use sqlite_items::Items;
 use std::alloc::Global;
+use std::cmp::Ordering;
+use std::marker::Model;
 
-/// The normal form.
-pub fn normal_form(alloc: Global, path: &Path) -> Result<Path, OutOfMemory>
-    ensures { IfOk result (λ form. form ≡ normal_of path.now) }
-{
-    match path {
-        Path::Nothing => Ok(Path::Nothing),
-        Path::Empty => Ok(Path::Empty),
-        Path::Dot => Ok(Path::Dot),
-        Path::Loc(loc) => Ok(Path::Loc(*loc)),
-        Path::Fun(fun) => Ok(Path::Fun(*fun)),
-        Path::Cat(first, rest) => {
-            let first = normal_form(alloc, first.get())?;
-            cat_of(alloc, first, normal_form(alloc, rest.get())?)
+/// A path by the places of its parts, which stand before it. An Alt has its first member and the Alt
+/// of the others, which is Nothing where there is none; an Alt that never had a member is NoChoice.
+#[derive(Clone, Copy, PartialEq, Eq, Hash)]
+pub enum FormNode {
+    Nothing,
+    Empty,
+    Dot,
+    Loc(usize),
+    Fun(usize),
+    Cat(usize, usize),
+    NoChoice,
+    Alt(usize, usize),
+    Star(usize),
+    Not(usize),
+}
+
+/// Paths that share their parts, each once, and how pairs of them compare that were compared before.
+#[derive(Drop)]
+pub struct Forms {
+    nodes: IndexSet<FormNode>,
+    orders: IndexMap<(usize, usize), Ordering>,
+}
+
+impl Model for Forms {
+    ghost use Rattle.std.specs.Prelude.{List, []};
+    ghost use Rattle.std.specs.Coded.{coded_list};
+    ghost use Rattle.merlin_model.specs.contracts.policy.Path as p;
+    ghost use Rattle.merlin_model.specs.declared.policy.Path.{Path};
+    ghost use Rattle.path_regex.specs.Shared.{meanings, AreForms};
+
+    ghost Value = { List Path };
+
+    ghost coded = { coded_list p.the_row.coded };
+
+    ghost view = { λ forms. meanings [] forms.nodes.keys };
+
+    ghost invariant = { λ forms. AreForms forms.nodes.keys forms.orders.entries };
+}
+
+impl Forms {
+    /// No path.
+    pub fn new(alloc: Global) -> Forms
+        ensures { result ≡ [] }
+    {
+        Forms {
+            nodes: IndexSet::new(alloc),
+            orders: IndexMap::new(alloc),
         }
-        Path::Alt(paths) => {
-            let mut forms = Items::new(alloc);
-            for path in paths.as_slice() {
-                forms.push(normal_form(alloc, path)?)?;
-            }
-            alt_of(alloc, forms)
-        }
-        Path::Star(inner) => star_of(alloc, normal_form(alloc, inner.get())?),
-        Path::Not(inner) => not_of(alloc, normal_form(alloc, inner.get())?),
     }
-}
 
-/// Whether the path takes the empty word.
-pub fn takes_empty(path: &Path) -> bool
-    ensures { result ≡ takes path.now }
-{
-    match path {
-        Path::Nothing | Path::Dot | Path::Loc(_) | Path::Fun(_) => false,
-        Path::Empty | Path::Star(_) => true,
-        Path::Cat(first, rest) => takes_empty(first.get()) && takes_empty(rest.get()),
-        Path::Alt(paths) => {
-            for path in paths.as_slice() {
-                if takes_empty(path) {
-                    return true;
-                }
-            }
-            false
+    /// The parts of a path.
+    pub fn node(&self, form: usize) -> FormNode
+        requires { form < length self.now }
+        ensures { IsNode self.now form result }
+    {
+        match self.nodes.get_index(form) {
+            Some(node) => *node,
+            None => FormNode::Nothing,
         }
-        Path::Not(inner) => !takes_empty(inner.get()),
     }
-}
 
-/// The empty word alone, or nothing.
-fn empty_if(taken: bool) -> Path
-    ensures { result ≡ when taken }
-{
-    if taken { Path::Empty } else { Path::Nothing }
-}
-
-/// The first followed by a copy of the rest.
-fn followed_by(alloc: Global, first: Path, rest: &Path) -> Result<Path, OutOfMemory>
-    ensures { IfOk result (λ path. path ≡ cat first rest.now) }
-{
-    match first {
-        Path::Nothing => Ok(Path::Nothing),
-        first => cat_of(alloc, first, copy(alloc, rest)?),
+    /// The place of the path with these parts.
+    pub fn put(&mut self, node: FormNode) -> Result<usize, OutOfMemory>
+        requires { PartsStandBefore (length self.old) self.old node }
+        ensures grows { AddsForms self.old self.new }
+        ensures value { IfOk result (λ form. IsFormAt self.new form (meaning self.old node)) }
+    {
+        let (form, _) = self.nodes.insert_full(node)?;
+        Ok(form)
     }
-}
 
-/// What may follow after a symbol.
-pub fn derivative_form(alloc: Global, path: &Path, symbol: Symbol) -> Result<Path, OutOfMemory>
-    ensures { IfOk result (λ rest. rest ≡ derivative_of path.now symbol) }
-{
-    match path {
-        Path::Nothing | Path::Empty => Ok(Path::Nothing),
-        Path::Dot => Ok(empty_if(symbol.fun.is_none())),
-        Path::Loc(loc) => Ok(empty_if(symbol.fun.is_none() && *loc == symbol.loc)),
-        Path::Fun(fun) => Ok(empty_if(symbol.fun == Some(*fun))),
-        Path::Cat(first, rest) => {
-            let way = followed_by(
-                alloc,
-                derivative_form(alloc, first.get(), symbol)?,
-                rest.get(),
-            )?;
-            if !takes_empty(first.get()) {
-                return Ok(way);
-            }
-            let mut ways = Items::new(alloc);
-            ways.push(way)?;
-            ways.push(derivative_form(alloc, rest.get(), symbol)?)?;
-            alt_of(alloc, ways)
-        }
-        Path::Alt(paths) => {
-            let mut ways = Items::new(alloc);
-            for path in paths.as_slice() {
-                ways.push(derivative_form(alloc, path, symbol)?)?;
-            }
-            alt_of(alloc, ways)
-        }
-        Path::Star(inner) => followed_by(alloc, derivative_form(alloc, inner.get(), symbol)?, path),
-        Path::Not(inner) => match symbol.fun {
-            None => not_of(alloc, derivative_form(alloc, inner.get(), symbol)?),
-            Some(_) => Ok(Path::Nothing),
-        },
+    /// How the forms at two places compare, if they were compared before.
+    pub fn known_order(&self, first: usize, second: usize) -> Option<Ordering>
+        ensures { IfSome result (λ known.
+            known ≡ order (form_at self.now first) (form_at self.now second)) }
+    {
+        self.orders.get(&(first, second)).copied()
+    }
+
+    /// Keeps how the forms at two places compare.
+    pub fn note_order(
+        &mut self,
+        first: usize,
+        second: usize,
+        found: Ordering,
+    ) -> Result<(), OutOfMemory>
+        requires first { first < length self.old }
+        requires second { second < length self.old }
+        requires found { found ≡ order (form_at self.old first) (form_at self.old second) }
+        ensures { self.new ≡ self.old }
+    {
+        self.orders.insert((first, second), found)?;
+        Ok(())
+    }
+
+    /// Each form has one place.
+    pub fn differ(&self)
+        ensures { AreDistinct self.now }
+    {
+        let _nodes = &self.nodes;
     }
 }

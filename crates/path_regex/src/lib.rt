@@ -8,12 +8,15 @@ ghost use Rattle.path_regex.specs.Derivatives.{takes_empty, derivative_of};
 ghost use Rattle.path_regex.specs.Functions.{HasNoFunctionUnderNot};
 ghost use Rattle.path_regex.specs.Languages.{TakesSameWords, IsQuotient};
 
-pub mod copies;
-mod forms;
+mod comparing;
+mod empty_word;
+pub mod forms;
+mod joining;
 pub mod laws;
-pub mod order;
-mod parts;
+mod stepping;
+mod trees;
 
+use forms::Forms;
 pub use merlin_model::OutOfMemory;
 pub use merlin_model::policy::{Path, Symbol};
 use std::alloc::Global;
@@ -26,7 +29,9 @@ pub fn normal(alloc: Global, path: &Path) -> Result<Path, OutOfMemory>
     ensures functions { HasNoFunctionUnderNot path.now → IfOk result HasNoFunctionUnderNot }
     ensures language { HasNoFunctionUnderNot path.now → IfOk result (TakesSameWords path.now) }
 {
-    forms::normal_form(alloc, path)
+    let mut forms = Forms::new(alloc);
+    let form = forms.normal(alloc, path)?;
+    forms.path_of(alloc, form)
 }
 
 /// The path of the words that may follow after the symbol; it is in normal form where the path is.
@@ -36,7 +41,10 @@ pub fn derivative(alloc: Global, path: &Path, symbol: Symbol) -> Result<Path, Ou
     ensures functions { HasNoFunctionUnderNot path.now → IfOk result HasNoFunctionUnderNot }
     ensures quotient { HasNoFunctionUnderNot path.now → IfOk result (IsQuotient path.now symbol) }
 {
-    forms::derivative_form(alloc, path, symbol)
+    let mut forms = Forms::new(alloc);
+    let form = forms.form_of(alloc, path)?;
+    let rest = forms.derivative(form, symbol)?;
+    forms.path_of(alloc, rest)
 }
 
 /// Whether the path takes the empty word.
@@ -44,5 +52,5 @@ pub fn nullable(path: &Path) -> bool
     ensures is { result ≡ takes_empty path.now }
     ensures empty { IsTrue result ↔ InLanguage path.now [] }
 {
-    forms::takes_empty(path)
+    empty_word::takes_empty(path)
 }

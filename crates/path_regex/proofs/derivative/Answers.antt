@@ -1,4 +1,4 @@
-use Rattle.std.proofs.Common.{◌↔◌, List, ◌∷◌}
+use Rattle.std.proofs.Common.{◌↔◌, List, ◌∷◌, ◌≡◌, IfOk, ◌∙◌, ap, subst}
 use Rattle.merlin_model.specs.declared.policy.Symbol.{Symbol}
 use Rattle.merlin_model.specs.declared.policy.Path.{Path}
 use Rattle.merlin_model.specs.Paths.{InLanguage}
@@ -15,9 +15,10 @@ pub returns : goal.returns
 returns c =
     let path : Path = c.args.path.now in
     let x : Symbol = c.args.symbol in
+    let is : IfOk c.path_of.result (λ rest. rest ≡ derivative_of path x) = subst (λ (a : Path). IfOk c.path_of.result (λ rest. rest ≡ a)) (c.in_ok-rest.ensures.value.1 ∙ ap (λ (a : Path). derivative_of a x) c.in_ok-form.ensures.value.1) c.path_of.ensures in
     record {
-      is = c.derivative_form.ensures;
-      own = λ n. if_ok IsNormalForm c.derivative_form.result (derivative_of path x) c.derivative_form.ensures (derivative-own path x n);
-      functions = λ n. if_ok HasNoFunctionUnderNot c.derivative_form.result (derivative_of path x) c.derivative_form.ensures (derivative-under path x n);
-      quotient = λ n. if_ok (λ rest. (w : List Symbol) → InLanguage rest w ↔ InLanguage path (x ∷ w)) c.derivative_form.result (derivative_of path x) c.derivative_form.ensures (derivative-quotient path n x);
+      is = is;
+      own = λ n. if_ok IsNormalForm c.path_of.result (derivative_of path x) is (derivative-own path x n);
+      functions = λ n. if_ok HasNoFunctionUnderNot c.path_of.result (derivative_of path x) is (derivative-under path x n);
+      quotient = λ n. if_ok (λ rest. (w : List Symbol) → InLanguage rest w ↔ InLanguage path (x ∷ w)) c.path_of.result (derivative_of path x) is (derivative-quotient path n x);
     }

@@ -1,4 +1,4 @@
-use Rattle.std.proofs.Common.{◌↔◌, List}
+use Rattle.std.proofs.Common.{◌↔◌, List, ◌≡◌, IfOk, subst}
 use Rattle.merlin_model.specs.declared.policy.Symbol.{Symbol}
 use Rattle.merlin_model.specs.declared.policy.Path.{Path}
 use Rattle.merlin_model.specs.Paths.{InLanguage}
@@ -13,9 +13,10 @@ use Rattle.path_regex.proofs.normal.Goals as goal
 pub returns : goal.returns
 returns c =
     let path : Path = c.args.path.now in
+    let is : IfOk c.path_of.result (λ form. form ≡ normal_of path) = subst (λ (a : Path). IfOk c.path_of.result (λ form. form ≡ a)) c.in_ok-form.ensures.value.1 c.path_of.ensures in
     record {
-      is = c.normal_form.ensures;
-      own = if_ok IsNormalForm c.normal_form.result (normal_of path) c.normal_form.ensures (normal_form path);
-      functions = λ n. if_ok HasNoFunctionUnderNot c.normal_form.result (normal_of path) c.normal_form.ensures (normal-under path n);
-      language = λ n. if_ok (λ form. (w : List Symbol) → InLanguage form w ↔ InLanguage path w) c.normal_form.result (normal_of path) c.normal_form.ensures (normal-takes path n);
+      is = is;
+      own = if_ok IsNormalForm c.path_of.result (normal_of path) is (normal_form path);
+      functions = λ n. if_ok HasNoFunctionUnderNot c.path_of.result (normal_of path) is (normal-under path n);
+      language = λ n. if_ok (λ form. (w : List Symbol) → InLanguage form w ↔ InLanguage path w) c.path_of.result (normal_of path) is (normal-takes path n);
     }

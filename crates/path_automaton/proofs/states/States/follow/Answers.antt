@@ -5,7 +5,7 @@ use Rattle.merlin_model.specs.declared.policy.Symbol.{Symbol}
 use Rattle.merlin_model.specs.declared.policy.Path.{Path, Nothing}
 use Rattle.path_regex.specs.Derivatives.{derivative_of}
 use Rattle.path_automaton.specs.States.{with_new}
-use Rattle.path_automaton.specs.Shared.{form_at, AreFound}
+use Rattle.path_regex.specs.Shared.{form_at, AreFound}
 use Rattle.path_automaton.proofs.Found.{found-kept, forms-kept, at-found, get-found, with_new-found, found-more}
 use Rattle.path_automaton.proofs.states.States.follow.Goals as goal
 

@@ -1,4 +1,0 @@
-use Rattle.path_automaton.proofs.forms.Forms.+added.Given as goal
-
-abbrev pub decreases-added : goal.decreases-added
-decreases-added l = l.others

@@ -1,4 +1,0 @@
-use Rattle.path_automaton.proofs.forms.Forms.+all_added.Given as goal
-
-abbrev pub decreases-all_added : goal.decreases-all_added
-decreases-all_added l = l.form

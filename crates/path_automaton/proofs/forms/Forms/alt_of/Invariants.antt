@@ -1,9 +1,0 @@
-use Rattle.std.proofs.Common.{length}
-use Rattle.path_automaton.proofs.Joined.{IsJoining}
-use Rattle.path_automaton.proofs.forms.Forms.alt_of.Given as goal
-
-abbrev pub invariant-loop-form : goal.invariant-loop-form
-invariant-loop-form l = IsJoining l.fn.self l.self l.fn.forms l.forms l.all
-
-abbrev pub decreases-loop-form : goal.decreases-loop-form
-decreases-loop-form l = length l.forms

@@ -1,0 +1,13 @@
+pub mod Lists
+pub mod Numbered
+pub mod Walked
+pub mod Grouped
+pub mod Decided
+pub mod Dropped
+pub mod Made
+pub mod Classed
+pub mod Capped
+pub mod Shares
+pub mod Reserved
+pub mod Sinks
+pub mod Regular

@@ -1,6 +1,7 @@
 -- Laws of the order of paths.
-use Rattle.std.proofs.Common.{◌≡◌, ◌==◌, cond, nat_lt, Bool, true, false, ℕ, List, [], ◌∷◌, ◌++◌, ◌≤◌, arith, append_assoc, append-nil, refl, sym, ◌∙◌, ap, ap₂}
+use Rattle.std.proofs.Common.{◌≡◌, ◌==◌, cond, nat_lt, Bool, true, false, ℕ, List, [], ◌∷◌, ◌++◌, ◌≤◌, ◌<◌, length, get_or, drop, drop-cons, suc, arith, append_assoc, append-nil, refl, sym, ◌∙◌, ap, ap₂}
 use Rattle.std.proofs.lemmas.Bool.{eqb-true}
+use Rattle.std.proofs.lemmas.List.{drop_all}
 use Rattle.std.specs.declared.cmp.Ordering.{Ordering}
 use Rattle.std.specs.declared.cmp.Ordering.TheVariants.{Less, Equal, Greater}
 use Rattle.std.specs.Ordering.{nat_cmp, ordering_then, is_eq}
@@ -196,6 +197,35 @@ lists (x ∷ xs) (y ∷ ys) = spelled-first x y (spelled_list xs) (spelled_list 
 pub order-Alt : (xs ys : List Path) → order (Alt xs) (Alt ys) ≡ slice_cmp order xs ys
 order-Alt xs ys = ap₂ words (spelled-Alt xs) (spelled-Alt ys) ∙ lists xs ys
 
+-- A variant against the others.
+
+pub other-Loc : (b : Path) → ((m : ℕ) → b ≡ Loc m → ⊥) → is_eq (nat_cmp 4 (rank b)) ≡ false
+other-Loc (Loc m) h = absurd (h m refl)
+other-Loc b h = refl
+
+pub other-Fun : (b : Path) → ((m : ℕ) → b ≡ Fun m → ⊥) → is_eq (nat_cmp 5 (rank b)) ≡ false
+other-Fun (Fun m) h = absurd (h m refl)
+other-Fun b h = refl
+
+pub other-Cat : (b : Path) → ((c d : Path) → b ≡ Cat c d → ⊥) → is_eq (nat_cmp 6 (rank b)) ≡ false
+unfolding hidden-the_row-Path-1 hidden
+other-Cat (Cat' s (more_of-Path c end_of-Path) t (more_of-Path d end_of-Path)) h = absurd (h c d refl)
+other-Cat b h = refl
+
+pub other-Alt : (b : Path) → ((paths : List Path) → b ≡ Alt paths → ⊥) → is_eq (nat_cmp 7 (rank b)) ≡ false
+other-Alt (Alt' s paths) h = absurd (h (listed paths) (Alt-listed s paths))
+other-Alt b h = refl
+
+pub other-Star : (b : Path) → ((c : Path) → b ≡ Star c → ⊥) → is_eq (nat_cmp 8 (rank b)) ≡ false
+unfolding hidden-the_row-Path-1 hidden
+other-Star (Star' s (more_of-Path c end_of-Path)) h = absurd (h c refl)
+other-Star b h = refl
+
+pub other-Not : (b : Path) → ((c : Path) → b ≡ Not c → ⊥) → is_eq (nat_cmp 9 (rank b)) ≡ false
+unfolding hidden-the_row-Path-1 hidden
+other-Not (Not' s (more_of-Path c end_of-Path)) h = absurd (h c refl)
+other-Not b h = refl
+
 -- the plain variants stand before all others
 pub order-plain : (a b : Path) → rank a ≤ 3 → order a b ≡ nat_cmp (rank a) (rank b)
 order-plain Nothing Nothing h = refl
@@ -206,11 +236,45 @@ order-plain Empty b h = order-apart Empty b refl
 order-plain Dot b h = order-apart Dot b refl
 order-plain a b h = absurd (omega arith)
 
+-- The order of two Alts, member by member: up to member i they are alike, and left are the other's members from there on.
+
 -- the first that is not Equal decides
 pub decides : (o p q : Ordering) → (o ≡ Equal → ⊥) → o ≡ p → o ≡ ordering_then p q
 decides Less p q n e = ap (λ r. ordering_then r q) e
 decides Equal p q n e = absurd (n refl)
 decides Greater p q n e = ap (λ r. ordering_then r q) e
+
+module _ (xs ys left : List Path) (i : ℕ) (alike : slice_cmp order xs ys ≡ slice_cmp order (drop i xs) left) where
+  pub decided-by : (x y : Path) (o : Ordering) → i < length xs → x ≡ get_or xs i x → 0 < length left → y ≡ get_or left 0 y → o ≡ order x y → (o ≡ Equal → ⊥) → o ≡ order (Alt xs) (Alt ys)
+  decided-by x y o lt ex lt2 ey e n =
+      decides o (order x y) (slice_cmp order (drop (suc i) xs) (drop 1 left)) n e
+      ∙ ap (λ z. slice_cmp order (z ∷ drop (suc i) xs) (y ∷ drop 1 left)) ex
+      ∙ ap (λ z. slice_cmp order (get_or xs i x ∷ drop (suc i) xs) (z ∷ drop 1 left)) ey
+      ∙ sym (order-Alt xs ys ∙ alike ∙ ap₂ (λ u v. slice_cmp order u v) (drop-cons xs i x lt) (drop-cons left 0 y lt2))
+
+  pub longer : i < length xs → length left < 1 → Greater ≡ order (Alt xs) (Alt ys)
+  longer lt none = sym (order-Alt xs ys ∙ alike ∙ ap₂ (λ u v. slice_cmp order u v) (drop-cons xs i Nothing lt) (empty left none))
+    where
+      empty : (zs : List Path) → length zs < 1 → zs ≡ []
+      empty [] e = refl
+      empty (z ∷ zs) e = absurd (omega arith)
+
+  at_end : length xs ≤ i → slice_cmp order [] left ≡ order (Alt xs) (Alt ys)
+  at_end le = sym (order-Alt xs ys ∙ alike ∙ ap (λ u. slice_cmp order u left) (drop_all i xs le))
+
+  pub as_long : length xs ≤ i → (length left == 0) ≡ true → Equal ≡ order (Alt xs) (Alt ys)
+  as_long le e = by left e ∙ at_end le
+    where
+      by : (zs : List Path) → (length zs == 0) ≡ true → Equal ≡ slice_cmp order [] zs
+      by [] e = refl
+      by (z ∷ zs) e = let none : suc (length zs) ≡ 0 = eqb-true (suc (length zs)) 0 e in absurd (omega arith)
+
+  pub shorter : length xs ≤ i → (length left == 0) ≡ false → Less ≡ order (Alt xs) (Alt ys)
+  shorter le e = by left e ∙ at_end le
+    where
+      by : (zs : List Path) → (length zs == 0) ≡ false → Less ≡ slice_cmp order [] zs
+      by [] e = absurd (false-true (sym e))
+      by (z ∷ zs) e = refl
 
 -- what an answer to a comparison of variants is
 pub ranked : (a b : Path) (r s : ℕ) (o : Ordering) → o ≡ nat_cmp r s → r ≡ rank a → s ≡ rank b → is_eq (nat_cmp (rank a) (rank b)) ≡ false → o ≡ order a b

@@ -13,6 +13,7 @@ mod empty_word;
 pub mod forms;
 mod joining;
 pub mod laws;
+pub mod order;
 mod stepping;
 mod trees;
 

@@ -7,7 +7,7 @@ use Rattle.std.proofs.lemmas.Option.{slice_get_within}
 use Rattle.std.proofs.lemmas.Bool.{cases_eq}
 use Rattle.fair_share.specs.declared.cap.Tenant.{Tenant}
 use Rattle.fair_share.specs.Shares.{given_to, Demands, is_on_way, is_beneath, shares_beneath, IsFeasible, IsBoundBy}
-use Rattle.fair_share.specs.Filling.{HaveRoomAbove, IsBlocked, IsSettled, IsFilled, IsEither, IsRaised, IsBetweenLevels, share_at}
+use Rattle.fair_share.specs.Filling.{HaveRoomAbove, IsBlocked, IsFinalShare, IsFilled, IsEither, IsRaised, IsBetweenLevels, share_at}
 use Rattle.fair_share.proofs.Rising.{set-adds, one-more}
 use Rattle.fair_share.proofs.Filling.{index-settled, shares-long, some-at}
 
@@ -60,9 +60,9 @@ between-raised d xs ys rising easy used used' level f r only = record {
         by t e true g = let a = taken k t e g in let m = f.risen k t e (only k g) in omega arith
         by t e false g = let a = kept k t e g in omega arith
 
-    by_settled : (i : ℕ) (t : Tenant) → slice_get d.tenants i ≡ Some t → get_or rising i false ≡ false → (b : Bool) → get_or easy i false ≡ b → IsSettled d ys t (get_or ys i 0)
+    by_settled : (i : ℕ) (t : Tenant) → slice_get d.tenants i ≡ Some t → get_or rising i false ≡ false → (b : Bool) → get_or easy i false ≡ b → IsFinalShare d ys t (get_or ys i 0)
     by_settled i t e still true g = absurd (true-false (sym (only i g) ∙ still))
-    by_settled i t e still false g = subst (IsSettled d ys t) (sym (kept i t e g)) (index-settled d xs ys t (get_or xs i 0) r.feasible long size rise (f.settled i t e still))
+    by_settled i t e still false g = subst (IsFinalShare d ys t) (sym (kept i t e g)) (index-settled d xs ys t (get_or xs i 0) r.feasible long size rise (f.settled i t e still))
 
     by_most : (i : ℕ) (t : Tenant) → slice_get d.tenants i ≡ Some t → i < length d.tenants → (b : Bool) → get_or easy i false ≡ b → get_or ys i 0 ≤ level + 1
     by_most i t e l true g = let a = taken i t e g in omega arith
@@ -170,9 +170,9 @@ module _ (d : Demands) (xs : List ℕ) (rising : List Bool) (used : List ℕ) (l
           by (inl e) = subst (λ k. get_or xs k 0 ≤ get_or (set xs n (get_or xs n 0 + 1)) k 0) (sym e) (let h = here in omega arith)
           by (inr ne) = let o = other i ne in omega arith
 
-      by_settled : (i : ℕ) (u : Tenant) → slice_get d.tenants i ≡ Some u → get_or rising i false ≡ false → (i ≡ n) ⊎ (i ≡ n → ⊥) → IsSettled d (set xs n (get_or xs n 0 + 1)) u (get_or (set xs n (get_or xs n 0 + 1)) i 0)
+      by_settled : (i : ℕ) (u : Tenant) → slice_get d.tenants i ≡ Some u → get_or rising i false ≡ false → (i ≡ n) ⊎ (i ≡ n → ⊥) → IsFinalShare d (set xs n (get_or xs n 0 + 1)) u (get_or (set xs n (get_or xs n 0 + 1)) i 0)
       by_settled i u e f (inl same) = absurd (true-false (sym rises ∙ ap (λ k. get_or rising k false) (sym same) ∙ f))
-      by_settled i u e f (inr ne) = subst (IsSettled d (set xs n (get_or xs n 0 + 1)) u) (sym (other i ne)) (index-settled d xs (set xs n (get_or xs n 0 + 1)) u (get_or xs i 0) feasible long size rise (b.settled i u e f))
+      by_settled i u e f (inr ne) = subst (IsFinalShare d (set xs n (get_or xs n 0 + 1)) u) (sym (other i ne)) (index-settled d xs (set xs n (get_or xs n 0 + 1)) u (get_or xs i 0) feasible long size rise (b.settled i u e f))
 
       by_most : (i : ℕ) → i < length d.tenants → (i ≡ n) ⊎ (i ≡ n → ⊥) → get_or (set xs n (get_or xs n 0 + 1)) i 0 ≤ level + 1
       by_most i l (inl e) = subst (λ k. get_or (set xs n (get_or xs n 0 + 1)) k 0 ≤ level + 1) (sym e) (let h = here in let o = own in omega arith)
@@ -227,10 +227,10 @@ module _ (d : Demands) (xs : List ℕ) (rising : List Bool) (used : List ℕ) (l
         even = subst (λ m. All (λ y. y ≤ m + 1) (shares_beneath d blocked.place xs)) (sym own) (All-from_recursion (λ y. y ≤ level + 1) (shares_beneath d blocked.place xs) (even (is_beneath d blocked.place) d.tenants xs (λ i l. b.most i (let m = long in omega arith))));
       }
 
-      by_settled : (i : ℕ) (u : Tenant) → slice_get d.tenants i ≡ Some u → get_or (set rising n false) i false ≡ false → (i ≡ n) ⊎ (i ≡ n → ⊥) → IsSettled d xs u (get_or xs i 0)
+      by_settled : (i : ℕ) (u : Tenant) → slice_get d.tenants i ≡ Some u → get_or (set rising n false) i false ≡ false → (i ≡ n) ⊎ (i ≡ n → ⊥) → IsFinalShare d xs u (get_or xs i 0)
       by_settled i u e f (inl same) =
           let which : t ≡ u = same-tenant stands (ap (slice_get d.tenants) (sym same) ∙ e) in
-          subst (λ k. IsSettled d xs u (get_or xs k 0)) (sym same) (subst (λ v. IsSettled d xs v (get_or xs n 0)) which (inr (blocked.place, bound)))
+          subst (λ k. IsFinalShare d xs u (get_or xs k 0)) (sym same) (subst (λ v. IsFinalShare d xs v (get_or xs n 0)) which (inr (blocked.place, bound)))
       by_settled i u e f (inr ne) = b.settled i u e (sym (other i ne) ∙ f)
 
       by_gone : (i : ℕ) (u : Tenant) → slice_get d.tenants i ≡ Some u → get_or (set rising n false) i false ≡ true → (i ≡ n) ⊎ (i < n) → get_or xs i 0 ≡ min (level + 1) u.demand

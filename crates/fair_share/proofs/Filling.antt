@@ -8,7 +8,7 @@ use Rattle.std.proofs.lemmas.Bool.{cases_eq}
 use Rattle.fair_share.specs.declared.cap.Cap.{Cap}
 use Rattle.fair_share.specs.declared.cap.Tenant.{Tenant}
 use Rattle.fair_share.specs.Shares.{given_to, HavePlaces, Demands, is_beneath, shares_beneath, IsFeasible}
-use Rattle.fair_share.specs.Filling.{demands, AreUsed, IsSettled, IsFilled, share_at, IsCapPlace}
+use Rattle.fair_share.specs.Filling.{demands, AreUsed, IsFinalShare, IsFilled, share_at, IsCapPlace}
 use Rattle.fair_share.proofs.Rising.{sum-step, keeps-bound}
 use Rattle.fair_share.proofs.Levels.{as_many}
 
@@ -85,7 +85,7 @@ place-of caps tenants i t places l e = by t.under refl
 
 -- What a filled division keeps.
 
-pub index-settled : (d : Demands) (xs ys : List ℕ) (t : Tenant) (x : ℕ) → IsFeasible d ys → length xs ≡ length d.tenants → length ys ≡ length xs → ((i : ℕ) → i < length xs → get_or xs i 0 ≤ get_or ys i 0) → IsSettled d xs t x → IsSettled d ys t x
+pub index-settled : (d : Demands) (xs ys : List ℕ) (t : Tenant) (x : ℕ) → IsFeasible d ys → length xs ≡ length d.tenants → length ys ≡ length xs → ((i : ℕ) → i < length xs → get_or xs i 0 ≤ get_or ys i 0) → IsFinalShare d xs t x → IsFinalShare d ys t x
 index-settled d xs ys t x feasible l m rise (inl e) = inl e
 index-settled d xs ys t x feasible l m rise (inr b) = inr (b.0, keeps-bound d xs ys t x b.0 feasible l m rise b.1)
 
@@ -105,7 +105,7 @@ raised d xs ys rising used used' level level' filled le feasible taken each = re
   taken = taken;
   as_many = filled.as_many;
   settled = λ i t e f. let same : get_or ys i 0 ≡ get_or xs i 0 = each i t e ∙ ap (λ b. share_at b (get_or xs i 0) t.demand level') f in
-      subst (IsSettled d ys t) (sym same) (index-settled d xs ys t (get_or xs i 0) feasible (shares-long d xs filled.feasible) long (λ k l. rise k (omega (arith, shares-long d xs filled.feasible))) (filled.settled i t e f));
+      subst (IsFinalShare d ys t) (sym same) (index-settled d xs ys t (get_or xs i 0) feasible (shares-long d xs filled.feasible) long (λ k l. rise k (omega (arith, shares-long d xs filled.feasible))) (filled.settled i t e f));
   most = λ i l. let s = some-at d.tenants i l in by_most i s.0 s.1 l (get_or rising i false) refl;
   risen = λ i t e f. each i t e ∙ ap (λ b. share_at b (get_or xs i 0) t.demand level') f;
 }
@@ -165,10 +165,10 @@ filled-none caps ts xs used rising ex eu er lu lr = record {
     true-false e = cc
 
 pub filled-all : (d : Demands) (xs used : List ℕ) (rising : List Bool) (level : ℕ) → IsFilled d xs rising used level → ((i : ℕ) (t : Tenant) → slice_get d.tenants i ≡ Some t → t.demand ≤ level) →
-    (i : ℕ) (t : Tenant) → slice_get d.tenants i ≡ Some t → IsSettled d xs t (get_or xs i 0)
+    (i : ℕ) (t : Tenant) → slice_get d.tenants i ≡ Some t → IsFinalShare d xs t (get_or xs i 0)
 filled-all d xs used rising level f most i t e = by (get_or rising i false) refl
   where
-    by : (b : Bool) → get_or rising i false ≡ b → IsSettled d xs t (get_or xs i 0)
+    by : (b : Bool) → get_or rising i false ≡ b → IsFinalShare d xs t (get_or xs i 0)
     by true r = inl (let a = f.risen i t e r in let m = most i t e in omega arith)
     by false r = f.settled i t e r
 

@@ -17,4 +17,6 @@ pub mod NamedRates
 pub mod Numbering
 pub mod Repeated
 pub mod OneDivision
+pub mod OneReading
+pub mod OneVerdict
 pub mod Printing

@@ -8,7 +8,7 @@ use Rattle.fair_share.specs.declared.cap.Cap.{Cap}
 use Rattle.fair_share.specs.declared.cap.Tenant.{Tenant}
 use Rattle.fair_share.specs.declared.share.Share.{Share}
 use Rattle.fair_share.specs.Shares.{given_to, Demands, is_on_way, is_beneath, shares_beneath, IsBoundBy, IsRight, share_rates}
-use Rattle.fair_share.specs.Filling.{demands, AreUsed, AreTops, IsSettled, IsFullAt, IsInnermost, IsNamedBy, IsNamed}
+use Rattle.fair_share.specs.Filling.{demands, AreUsed, AreTops, IsFinalShare, IsFullAt, IsInnermost, IsNamedBy, IsNamed}
 use Rattle.fair_share.proofs.Filling.{zero-at}
 
 -- one share more beneath a cap
@@ -51,7 +51,7 @@ module _ (d : Demands) (xs used tops : List ℕ) (are : AreUsed d xs used) (top 
   pub bound-to : (c : ℕ) → IsBoundBy d xs t share c → IsFullAt d.caps t.under used tops share c
   bound-to c b = record { cap = b.cap; stands = b.stands; met = b.beneath; full = are.each c (slice_get_within d.caps c b.cap b.stands) ∙ b.full; even = (top.each c (share + 1) (slice_get_within d.caps c b.cap b.stands)).1 b.even }
 
-  pub named : (found : Option ℕ) → IsSettled d xs t share → share ≢ t.demand → MatchOption found ((c : ℕ) → ¬ IsFullAt d.caps t.under used tops share c) (IsInnermost d.caps t.under used tops share) →
+  pub named : (found : Option ℕ) → IsFinalShare d xs t share → share ≢ t.demand → MatchOption found ((c : ℕ) → ¬ IsFullAt d.caps t.under used tops share c) (IsInnermost d.caps t.under used tops share) →
       MatchOption found (share ≡ t.demand) (IsNamedBy d xs t share)
   named None (inl e) ne h = e
   named None (inr b) ne h = absurd (h b.0 (bound-to b.0 b.1))

@@ -45,7 +45,7 @@ pub names-long : (es : List NamedRate) → length (names_written es) ≡ length 
 names-long [] = refl
 names-long (e ∷ es) = ap suc (names-long es)
 
-get-take : {X : Type 0} (xs : List X) (n k : ℕ) (x : X) → slice_get (take n xs) k ≡ Some x → (k < n) × (slice_get xs k ≡ Some x)
+pub get-take : {X : Type 0} (xs : List X) (n k : ℕ) (x : X) → slice_get (take n xs) k ≡ Some x → (k < n) × (slice_get xs k ≡ Some x)
 get-take [] zero k x e = let no : ⊥ = cc in absurd no
 get-take [] (suc n) k x e = let no : ⊥ = cc in absurd no
 get-take (y ∷ xs) zero k x e = let no : ⊥ = cc in absurd no
@@ -53,7 +53,7 @@ get-take (y ∷ xs) (suc n) zero x e = (omega arith, e)
 get-take (y ∷ xs) (suc n) (suc k) x e = let h = get-take xs n k x e in ((let l = h.0 in omega arith), h.1)
 
 -- something stands at each place
-there : {X : Type 0} (xs : List X) (i : ℕ) → i < length xs → (x : X) × (slice_get xs i ≡ Some x)
+pub there : {X : Type 0} (xs : List X) (i : ℕ) → i < length xs → (x : X) × (slice_get xs i ≡ Some x)
 there [] i l = let no : ⊥ = omega arith in absurd no
 there (x ∷ xs) zero l = (x, refl)
 there (x ∷ xs) (suc i) l = there xs i (omega arith)

@@ -42,7 +42,7 @@ differ-at x [] j all e = cc
 differ-at x (y ∷ xs) zero all e = all.0 (sym (ap (λ o. unwrap_or o y) e))
 differ-at x (y ∷ xs) (suc j) all e = differ-at x xs j all.1 e
 
-place-once : (xs ys : List (List ℕ)) (i j : ℕ) (x : List ℕ) → AreDifferent (xs ++ ys) → slice_get xs i ≡ Some x → slice_get xs j ≡ Some x → i ≡ j
+pub place-once : (xs ys : List (List ℕ)) (i j : ℕ) (x : List ℕ) → AreDifferent (xs ++ ys) → slice_get xs i ≡ Some x → slice_get xs j ≡ Some x → i ≡ j
 place-once [] ys i j x d e f = let no : ⊥ = cc in absurd no
 place-once (z ∷ xs) ys zero zero x d e f = refl
 place-once (z ∷ xs) ys zero (suc j) x d e f = absurd (differ-at z xs j (front xs d.0) (f ∙ ap Some (sym (ap (λ o. unwrap_or o z) e))))

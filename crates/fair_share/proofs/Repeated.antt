@@ -7,7 +7,7 @@ use Rattle.std.specs.Cmp.Lexicographic.{pointwise}
 use Rattle.std.proofs.lemmas.Slice.Eq.{bytes_eq-Decides}
 use Rattle.merlin_model.specs.Networks.{AreDifferent}
 use Rattle.fair_share.specs.declared.entry.NamedRate.{NamedRate}
-use Rattle.fair_share.specs.Reading.{names_written, IsFirstRepeated}
+use Rattle.fair_share.specs.Reading.{names_written, IsFirstRepeatedName}
 use Rattle.fair_share.specs.declared.fault.DemandFault.{DemandFault}
 use Rattle.fair_share.specs.declared.fault.DemandFault.TheVariants.{Json, Shape, TooLarge, DuplicateName, UnknownCap, OutOfMemory}
 use Rattle.fair_share.specs.Failing.{key_texts, FailsAsRepeated}
@@ -106,7 +106,7 @@ module _ (old : List (List ℕ)) (es : List NamedRate) (n : ℕ) (ks : List Text
     apart = keys-differ ks' d;
   }
 
-  pub is-repeated : list_any (λ (k : Text). pointwise nat_eq v.items k.items) ks ≡ true → IsFirstRepeated (old ++ names_written es) e.name
+  pub is-repeated : list_any (λ (k : Text). pointwise nat_eq v.items k.items) ks ≡ true → IsFirstRepeatedName (old ++ names_written es) e.name
   is-repeated found =
       let h = key-there v.items ks found in
       let here : slice_get (key_texts ks) h.0 ≡ Some e.name = h.2 ∙ ap Some named in record {
@@ -125,7 +125,7 @@ module _ (old : List (List ℕ)) (es : List NamedRate) (n : ℕ) (ks : List Text
       long-taken (x ∷ xs) (suc k) = let q = long-taken xs k in omega arith
 
 -- what stands twice in the front stands twice in the whole
-pub repeated-front : (xs ys : List (List ℕ)) (name : List ℕ) → IsFirstRepeated xs name → IsFirstRepeated (xs ++ ys) name
+pub repeated-front : (xs ys : List (List ℕ)) (name : List ℕ) → IsFirstRepeatedName xs name → IsFirstRepeatedName (xs ++ ys) name
 repeated-front xs ys name r = record {
   place = r.place;
   stands = get-front xs ys r.place name r.stands;
@@ -159,11 +159,11 @@ is-new new false e f = refl
 is-new new true e f = absurd (true-false (sym f ∙ e))
 
 -- a name that stands twice among the caps
-pub repeated-caps : (ks : List Text) (es caps tenants : List NamedRate) (fault : DemandFault) → ks ≡ [] → es ≡ caps → FailsAsRepeated (IsFirstRepeated (key_texts ks ++ names_written es)) fault → FailsAsRepeated (IsFirstRepeated (names_written caps ++ names_written tenants)) fault
+pub repeated-caps : (ks : List Text) (es caps tenants : List NamedRate) (fault : DemandFault) → ks ≡ [] → es ≡ caps → FailsAsRepeated (IsFirstRepeatedName (key_texts ks ++ names_written es)) fault → FailsAsRepeated (IsFirstRepeatedName (names_written caps ++ names_written tenants)) fault
 repeated-caps ks es caps tenants Json e f h = h
 repeated-caps ks es caps tenants (Shape what) e f h = h
 repeated-caps ks es caps tenants (TooLarge what count) e f h = h
 repeated-caps ks es caps tenants (DuplicateName name) e f h =
-    repeated-front (names_written caps) (names_written tenants) name (subst (λ (xs : List NamedRate). IsFirstRepeated (names_written xs) name) f (subst (λ (zs : List Text). IsFirstRepeated (key_texts zs ++ names_written es) name) e h))
+    repeated-front (names_written caps) (names_written tenants) name (subst (λ (xs : List NamedRate). IsFirstRepeatedName (names_written xs) name) f (subst (λ (zs : List Text). IsFirstRepeatedName (key_texts zs ++ names_written es) name) e h))
 repeated-caps ks es caps tenants (UnknownCap name) e f h = h
 repeated-caps ks es caps tenants OutOfMemory e f h = h

@@ -56,10 +56,10 @@ abbrev pub key_texts : List (Vec ℕ Global) → List (List ℕ)
 key_texts keys = map (λ key. key.items) keys
 
 -- memory ran out, or there are more of these than may be
-abbrev pub IsExcess : List ℕ → ℕ → DemandFault → Type 0
-IsExcess words limit Json = ⊥
-IsExcess words limit (Shape what) = ⊥
-IsExcess words limit (TooLarge what count) = (what ≡ words) × (count ≡ limit)
-IsExcess words limit (DuplicateName name) = ⊥
-IsExcess words limit (UnknownCap name) = ⊥
-IsExcess words limit OutOfMemory = ⊤
+abbrev pub FailsAsTooLarge : List ℕ → ℕ → DemandFault → Type 0
+FailsAsTooLarge words limit Json = ⊥
+FailsAsTooLarge words limit (Shape what) = ⊥
+FailsAsTooLarge words limit (TooLarge what count) = (what ≡ words) × (count ≡ limit)
+FailsAsTooLarge words limit (DuplicateName name) = ⊥
+FailsAsTooLarge words limit (UnknownCap name) = ⊥
+FailsAsTooLarge words limit OutOfMemory = ⊤

@@ -39,8 +39,8 @@ pub record AreSomeDirect (caps : List Cap) (sums : List ℕ) : Type 0 where
   pub small : sum shares < 2 ^ 128
 
 -- the tenant has what it asks for, or a cap bounds its share
-abbrev pub IsSettled : Demands → List ℕ → Tenant → ℕ → Type 0
-IsSettled d shares tenant share = (share ≡ tenant.demand) ⊎ ((c : ℕ) × IsBoundBy d shares tenant share c)
+abbrev pub IsFinalShare : Demands → List ℕ → Tenant → ℕ → Type 0
+IsFinalShare d shares tenant share = (share ≡ tenant.demand) ⊎ ((c : ℕ) × IsBoundBy d shares tenant share c)
 
 -- a cap from a place up has no room for an amount beside what is used
 pub record IsBlocked (caps : List Cap) (at : Option ℕ) (used : List ℕ) (amount : ℕ) : Type 0 where
@@ -55,7 +55,7 @@ pub record IsFilled (d : Demands) (shares : List ℕ) (rising : List Bool) (used
   pub feasible : IsFeasible d shares
   pub taken : AreUsed d shares used
   pub as_many : length rising ≡ length d.tenants
-  pub settled : (i : ℕ) (tenant : Tenant) → slice_get d.tenants i ≡ Some tenant → slice_index_or rising i false ≡ false → IsSettled d shares tenant (slice_index shares i)
+  pub settled : (i : ℕ) (tenant : Tenant) → slice_get d.tenants i ≡ Some tenant → slice_index_or rising i false ≡ false → IsFinalShare d shares tenant (slice_index shares i)
   pub most : (i : ℕ) → i < length d.tenants → slice_index shares i ≤ level
   pub risen : (i : ℕ) (tenant : Tenant) → slice_get d.tenants i ≡ Some tenant → slice_index_or rising i false ≡ true → slice_index shares i ≡ min level tenant.demand
 
@@ -78,7 +78,7 @@ pub record IsBetweenLevels (d : Demands) (shares : List ℕ) (rising : List Bool
   pub feasible : IsFeasible d shares
   pub taken : AreUsed d shares used
   pub as_many : length rising ≡ length d.tenants
-  pub settled : (i : ℕ) (tenant : Tenant) → slice_get d.tenants i ≡ Some tenant → slice_index_or rising i false ≡ false → IsSettled d shares tenant (slice_index shares i)
+  pub settled : (i : ℕ) (tenant : Tenant) → slice_get d.tenants i ≡ Some tenant → slice_index_or rising i false ≡ false → IsFinalShare d shares tenant (slice_index shares i)
   pub most : (i : ℕ) → i < length d.tenants → slice_index shares i ≤ level + 1
   pub gone : (i : ℕ) (tenant : Tenant) → i < n → slice_get d.tenants i ≡ Some tenant → slice_index_or rising i false ≡ true → slice_index shares i ≡ min (level + 1) tenant.demand
   pub left : (i : ℕ) (tenant : Tenant) → n ≤ i → slice_get d.tenants i ≡ Some tenant →

@@ -76,7 +76,7 @@ IsTooLarge entries what count =
     × (what ≡ codes "tenants") × (count ≡ MAX_TENANTS + 1))
 
 -- the first name that stands before it too
-pub record IsFirstRepeated (names : List (List ℕ)) (name : List ℕ) : Type 0 where
+pub record IsFirstRepeatedName (names : List (List ℕ)) (name : List ℕ) : Type 0 where
   pub place : ℕ
   pub stands : slice_get names place ≡ Some name
   pub earlier : ℕ
@@ -120,7 +120,7 @@ abbrev pub AreRefused : NamedRates → DemandFault → Type 0
 AreRefused entries Json = ⊥
 AreRefused entries (Shape what) = ⊥
 AreRefused entries (TooLarge what count) = IsTooLarge entries what count
-AreRefused entries (DuplicateName name) = AreFew entries × IsFirstRepeated (all_names entries) name
+AreRefused entries (DuplicateName name) = AreFew entries × IsFirstRepeatedName (all_names entries) name
 AreRefused entries (UnknownCap name) = AreFew entries × AreDifferent (all_names entries) × IsUnknown entries name
 AreRefused entries OutOfMemory = ⊤
 

@@ -4,7 +4,7 @@ ghost use Rattle.std.specs.List.{AllZip};
 ghost use Rattle.fair_share.specs.declared.cap.Tenant.{Tenant};
 ghost use Rattle.fair_share.specs.Shares.{IsForest, HavePlaces, IsSound, IsBestDivision, share_rates};
 ghost use Rattle.fair_share.specs.ShareTexts.{AreShares};
-ghost use Rattle.fair_share.specs.Filling.{demands, IsCapPlace, AreUsed, AreTops, IsSettled, IsNamed};
+ghost use Rattle.fair_share.specs.Filling.{demands, IsCapPlace, AreUsed, AreTops, IsFinalShare, IsNamed};
 
 use crate::cap::{Cap, Tenant};
 use crate::climb::full_cap;
@@ -25,7 +25,7 @@ fn line_of(caps: &[Cap], tenant: &Tenant, rate: u64, used: &[u128], tops: &[u64]
     ensures named { (tenants : List Tenant) (shares : List ℕ) →
         AreUsed (demands caps.now tenants) shares used.now →
         AreTops (demands caps.now tenants) shares tops.now →
-        IsSettled (demands caps.now tenants) shares tenant.now rate →
+        IsFinalShare (demands caps.now tenants) shares tenant.now rate →
         IsNamed (demands caps.now tenants) shares tenant.now result }
 {
     if rate == tenant.demand {

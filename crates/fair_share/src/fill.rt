@@ -8,7 +8,7 @@ ghost use Rattle.std.specs.Prelude.{◌≡◌, ℕ, ◌≤◌, ◌<◌, ◌+◌,
 ghost use Rattle.fair_share.specs.declared.cap.Cap.{Cap};
 ghost use Rattle.fair_share.specs.declared.cap.Tenant.{Tenant};
 ghost use Rattle.fair_share.specs.Shares.{IsForest, HavePlaces, IsFeasible, share_rates};
-ghost use Rattle.fair_share.specs.Filling.{demands, AreUsed, IsFilled, IsBetweenLevels, IsRaised, IsSettled, share_at};
+ghost use Rattle.fair_share.specs.Filling.{demands, AreUsed, IsFilled, IsBetweenLevels, IsRaised, IsFinalShare, share_at};
 
 use crate::cap::{Cap, Tenant};
 use crate::climb::{add_up, has_room};
@@ -302,7 +302,7 @@ pub(crate) fn fill(alloc: Global, caps: &[Cap], tenants: &[Tenant]) -> Result<Gi
         (share_rates given.shares.items) given.used.items) }
     ensures settled { IfOk result (λ given. (i : ℕ) (tenant : Tenant) →
         slice_get tenants.now i ≡ Some tenant →
-        IsSettled (demands caps.now tenants.now) (share_rates given.shares.items) tenant
+        IsFinalShare (demands caps.now tenants.now) (share_rates given.shares.items) tenant
         (slice_index (share_rates given.shares.items) i)) }
 {
     let top = greatest_demand(tenants);

@@ -2,11 +2,15 @@
 
 ghost use Rattle.std.specs.Prelude.{◌≡◌, ℕ, ◌≤◌, ◌<◌, ◌+◌, List, map, sum, sum_by, min, length, slice_index, slice_set, slice_get, Some, if◌then◌else◌};
 ghost use Rattle.fair_share.specs.declared.share.Share.{Share};
-ghost use Rattle.fair_share.specs.Shares.{Demands, AreNested, IsFeasible, AreRight, share_rates, IsBestDivision};
+ghost use Rattle.fair_share.specs.Shares.{Demands, IsDemands, AreNested, IsFeasible, AreRight, IsSound, IsFirstUnsound, share_rates, IsBestDivision};
 ghost use Rattle.fair_share.specs.Shares.{IsAscendingForm, IsBoundBy, shares_beneath, is_beneath};
 ghost use Rattle.fair_share.specs.Filling.{AreUsed, HaveRoomAbove};
 ghost use Rattle.fair_share.specs.Examples.{campus, campus_shares};
 ghost use Rattle.fair_share.specs.declared.cap.Tenant.{Tenant};
+ghost use Rattle.fair_share.specs.declared.fault.DemandFault.{DemandFault};
+ghost use Rattle.fair_share.specs.declared.fault.DemandFault.TheVariants as fault;
+ghost use Rattle.fair_share.specs.Reading.{IsDemandsText, RefusesDemands};
+ghost use Rattle.fair_share.specs.ShareTexts.{IsSharesText};
 
 /// A division that keeps to demands and caps, and of which each line is right, is best.
 pub fn right_lines_are_best()
@@ -17,6 +21,25 @@ pub fn right_lines_are_best()
     ensures best { (d : Demands) (shares : List Share) → AreNested d →
         IsFeasible d (share_rates shares) → AreRight d shares →
         IsBestDivision d (share_rates shares) }
+{}
+
+/// Bytes stand for one list of caps and one of tenants, which keep the rules, and are not refused besides.
+pub fn one_demands()
+    ensures one { (bytes : List ℕ) (d other : Demands) → IsDemandsText bytes d →
+        IsDemandsText bytes other → d ≡ other }
+    ensures apart { (bytes : List ℕ) (d : Demands) (cause : DemandFault) →
+        IsDemandsText bytes d → RefusesDemands bytes cause → cause ≡ fault.OutOfMemory }
+    ensures keeps { (bytes : List ℕ) (d : Demands) → IsDemandsText bytes d → IsDemands d }
+{}
+
+/// Bytes stand for one division. It is sound, or one tenant is the first at fault, and not both.
+pub fn one_verdict()
+    ensures division { (d : Demands) (bytes : List ℕ) (shares other : List Share) → IsDemands d →
+        IsSharesText d bytes shares → IsSharesText d bytes other → shares ≡ other }
+    ensures apart { (d : Demands) (shares : List Share) (place : ℕ) → IsSound d shares →
+        ¬ IsFirstUnsound d shares place }
+    ensures first { (d : Demands) (shares : List Share) (place other : ℕ) →
+        IsFirstUnsound d shares place → IsFirstUnsound d shares other → other ≡ place }
 {}
 
 /// Numbers can be put in order.

@@ -1,7 +1,7 @@
 //! The names of caps and tenants: that no two are alike, and which cap one is.
 ghost use Rattle.std.specs.Prelude.{◌≡◌, ◌++◌, ◌↔◌, IsTrue, ℕ, List, None, Some, map, OnOk, IfOk, IfErr, IfSome, IfNone, slice_get};
 ghost use Rattle.merlin_model.specs.Networks.{AreDifferent};
-ghost use Rattle.fair_share.specs.Reading.{names_written, all_names, IsFirstRepeated};
+ghost use Rattle.fair_share.specs.Reading.{names_written, all_names, IsFirstRepeatedName};
 ghost use Rattle.fair_share.specs.Failing.{key_texts, FailsAsRepeated};
 
 use crate::cap::Cap;
@@ -21,7 +21,7 @@ fn add_names(
         ≡ key_texts numbers.old.keys ++ names_written entries.now)
         × AreDifferent (key_texts numbers.new.keys)) }
     ensures err { IfErr result (FailsAsRepeated
-        (IsFirstRepeated (key_texts numbers.old.keys ++ names_written entries.now))) }
+        (IsFirstRepeatedName (key_texts numbers.old.keys ++ names_written entries.now))) }
 {
     for entry in entries {
         let name = Vec::from_slice(alloc, entry.name.bytes())?;
@@ -36,7 +36,7 @@ fn add_names(
 // Fails where two names are alike.
 pub(crate) fn ask_names(alloc: Global, entries: &NamedRates) -> Result<(), DemandFault>
     ensures ok { IfOk result (λ _. AreDifferent (all_names entries.now)) }
-    ensures err { IfErr result (FailsAsRepeated (IsFirstRepeated (all_names entries.now))) }
+    ensures err { IfErr result (FailsAsRepeated (IsFirstRepeatedName (all_names entries.now))) }
 {
     let mut numbers = IndexSet::new(alloc);
     add_names(alloc, &entries.caps, &mut numbers)?;

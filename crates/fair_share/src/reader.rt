@@ -3,7 +3,7 @@ ghost use Rattle.std.specs.Prelude.{◌≡◌, ◌+◌, ◌<◌, ◌^◌, ℕ, L
 ghost use Rattle.serde_json.specs.View.{view};
 ghost use Rattle.fair_share.specs.Json.{IsJsonText};
 ghost use Rattle.fair_share.specs.Reading.{names_written, names_before, IsPlaceOf, IsKnown, AreCapsOf, AreTenantsOf, AreFew, AreDemandsOf, IsDemandsText, IsFirstUnknown, AreRefused, RefusesDemands};
-ghost use Rattle.fair_share.specs.Failing.{AreLawful, FailsAsUnknown, IsExcess};
+ghost use Rattle.fair_share.specs.Failing.{AreLawful, FailsAsUnknown, FailsAsTooLarge};
 
 use crate::cap::{Cap, Tenant};
 use crate::demands::Demands;
@@ -33,7 +33,7 @@ fn value_of(alloc: Global, bytes: &[u8]) -> Result<Value, DemandFault>
 // The fault of too many.
 fn excess(alloc: Global, what: &str, limit: usize) -> DemandFault
     requires { limit < 2 ^ 32 }
-    ensures { IsExcess what.now (limit + 1) result }
+    ensures { FailsAsTooLarge what.now (limit + 1) result }
 {
     match name_from(alloc, what.as_bytes()) {
         Ok(what) => DemandFault::TooLarge {

@@ -10,3 +10,4 @@ pub mod Refuting
 pub mod Runs
 pub mod Replies
 pub mod Naming
+pub mod Divisions

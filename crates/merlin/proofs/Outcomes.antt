@@ -1,16 +1,18 @@
 -- What follows from the outcome of a run, whatever the commands are.
-use Rattle.std.proofs.Common.{◌≡◌, ◌⊎◌, ℕ, List, Option, Some, refl, sym, ◌∙◌, ap, subst, inl, inr, Result, Ok, Err, IfOk}
+use Rattle.std.proofs.Common.{◌≡◌, ◌⊎◌, ℕ, List, Option, Some, sym, ◌∙◌, subst, inl, inr, Result, Ok, Err, IfOk}
 use Rattle.merlin_base.specs.Texts.{joined}
 use Rattle.merlin_base.specs.Outside.{Grows, GrowsByPrefix, Rose}
 use Rattle.merlin_base.specs.declared.status.Status.{Status}
 use Rattle.merlin_base.specs.declared.status.Status.TheVariants as status
 use Rattle.merlin.specs.Reading.{AreContents, IsFirstTooLong, RoseIn}
-use Rattle.merlin.specs.Commands.{Form, Compiling, Refuting, Reply, IsForm, files_of, Means, reply_lines, reply_status}
-use Rattle.merlin.specs.Outcome.{World, Taking, Answer, NoForm, NotRead, TooLong, Replied, IsNoForm, IsAsked, IsAnswerTo, answer_status, answer_text, IsBrokenOff, EndsWith, LacksMemory, IsOutcome, EndsAs, IsOfRepliesAlone, IsReplied, IsRefusedFile, IsGiven, IsReplyOver, IsEndOver, IsTooLong, RoseForAFile, SaysByStatus}
+use Rattle.merlin.specs.Commands.{CommandName, Compiling, Refuting, Dividing, Judging, meaning_of, Form, Reply, files_of, Means, reply_status}
+use Rattle.merlin.specs.Outcome.{World, Taking, Answer, NoForm, NotRead, TooLong, Replied, IsNoForm, IsAsked, IsAnswerTo, answer_status, answer_text, IsBrokenOff, EndsWith, IsOutcome, EndsAs, IsOfRepliesAlone, IsReplied, IsRefusedFile, IsGiven, IsReplyOver, IsEndOver, IsTooLong, RoseForAFile, SaysByStatus}
 use Rattle.merlin.specs.Parts.{IsReportTo, EndsBy, EndsByResult}
 use Rattle.merlin.specs.declared.report.Report.{Report}
 use Rattle.merlin.specs.declared.compile.CompileReply.TheVariants as compile
 use Rattle.merlin.specs.declared.refute.RefuteReply.TheVariants as refute
+use Rattle.merlin.specs.declared.fair.FairReply.TheVariants as fair
+use Rattle.merlin.specs.declared.fairness.FairnessReply.TheVariants as fairness
 use Rattle.merlin.proofs.Unique.{IsForm-same, AreContents-same, AreContents-short}
 
 -- No reply has one of these statuses.
@@ -21,17 +23,24 @@ IsOther status.WriteFault = Unit {0}
 IsOther status.Memory = Unit {0}
 IsOther ended = ⊥
 
-not_other : (form : Form) (reply : Reply form) → IsOther (reply_status form reply) → ⊥
-not_other (Compiling form) (compile.Refused fault) h = h
-not_other (Compiling form) (compile.Least compiled) h = h
-not_other (Refuting form) (refute.BadProgram at) h = h
-not_other (Refuting form) (refute.BadTree at) h = h
-not_other (Refuting form) refute.Refuted h = h
-not_other (Refuting form) (refute.NotRefuted node) h = h
+not_other : (name : CommandName) (reply : (meaning_of name).ReplyTo)
+    → IsOther ((meaning_of name).status reply) → ⊥
+not_other Compiling (compile.Refused fault) h = h
+not_other Compiling (compile.Least compiled) h = h
+not_other Refuting (refute.BadProgram at) h = h
+not_other Refuting (refute.BadTree at) h = h
+not_other Refuting refute.Refuted h = h
+not_other Refuting (refute.NotRefuted node) h = h
+not_other Dividing (fair.Refused fault) h = h
+not_other Dividing (fair.Divided lines) h = h
+not_other Judging (fairness.Refused fault) h = h
+not_other Judging (fairness.BadShares at) h = h
+not_other Judging fairness.Sound h = h
+not_other Judging (fairness.Unsound name) h = h
 
 other : {A : Type 0} (form : Form) (reply : Reply form) (ended wanted : Status) → ended ≡ wanted
     → ended ≡ reply_status form reply → IsOther wanted → A
-other form reply ended wanted e same h = absurd (not_other form reply (subst IsOther (sym e ∙ same) h))
+other form reply ended wanted e same h = absurd (not_other form.name reply (subst IsOther (sym e ∙ same) h))
 
 module _ (world : World) (sink : Taking) (words : List (List ℕ)) (ended : Status) where
   broken : {A : Type 0} → IsBrokenOff sink ended → (ended ≡ status.WriteFault → A)

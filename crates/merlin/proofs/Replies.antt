@@ -1,19 +1,24 @@
 -- From what is reported of the contents of a command's files to what is reported of the command.
-use Rattle.std.proofs.Common.{◌≡◌, ℕ, suc, List, [], ◌∷◌, length, get_or, refl, ap, subst, arith, Result, Ok, Err, IfOk}
+use Rattle.std.proofs.Common.{◌≡◌, ℕ, suc, List, [], ◌∷◌, length, get_or, refl, sym, ◌∙◌, ap, subst, arith, Result, Ok, Err, IfOk}
 use Rattle.merlin_base.specs.Outside.{KnownContents}
 use Rattle.std.specs.declared.vec.Vec.{Vec}
 use Rattle.std.specs.declared.alloc.Global.{Global}
-use Rattle.merlin_model.specs.Functions.{Behaviour}
 use Rattle.merlin.specs.Reading.{AreContents, IsUnread, texts_read}
 use Rattle.merlin.specs.declared.reading.Unread.{Unread}
 use Rattle.merlin.specs.declared.reading.Unread.TheVariants as unread
 use Rattle.merlin.specs.Outcome.{World, NoForm, NotRead, TooLong, Replied, IsNoForm}
-use Rattle.merlin.specs.Compile.{CompileForm, Compiles, compile_lines, compile_status}
-use Rattle.merlin.specs.declared.compile.CompileReply.{CompileReply}
-use Rattle.merlin.specs.Refute.{RefuteForm}
-use Rattle.merlin.specs.Commands.{Form, Compiling, Refuting, IsForm, files_of}
-use Rattle.merlin.specs.Parts.{IsCompileReport, IsRefuteReport, IsReplyReport, IsReportOf, IsReportTo, Tells}
+use Rattle.merlin_base.specs.declared.status.Status.{Status}
+use Rattle.merlin.specs.Reports.{IsReportWith}
+use Rattle.merlin.specs.Commands.{Form, IsForm, files_of}
+use Rattle.merlin.specs.Parts.{IsReplyReport, IsReportOf, IsReportTo, Tells}
 use Rattle.merlin.specs.declared.report.Report.{Report}
+
+-- files that were read
+
+one : {A : Type 0} (xs : List A) (a : A) → length xs ≡ 1 → a ≡ get_or xs 0 a → xs ≡ a ∷ []
+one [] a long p = absurd (omega (arith, long))
+one (x ∷ []) a long p = rw p
+one (x ∷ y ∷ xs) a long p = absurd (omega (arith, long))
 
 both : {A : Type 0} (xs : List A) (a b : A) → length xs ≡ 2 → a ≡ get_or xs 0 a → b ≡ get_or xs 1 b
     → xs ≡ a ∷ b ∷ []
@@ -22,20 +27,23 @@ both (x ∷ []) a b two p q = absurd (omega (arith, two))
 both (x ∷ y ∷ []) a b two p q = rw (p, q)
 both (x ∷ y ∷ z ∷ xs) a b two p q = absurd (omega (arith, two))
 
--- two files that were read
-pub texts_of_two : (contents : List (Vec ℕ Global)) (a b : Vec ℕ Global) → length contents ≡ 2
-    → a ≡ get_or contents 0 a → b ≡ get_or contents 1 b
-    → texts_read contents ≡ a.items ∷ b.items ∷ []
-texts_of_two contents a b two p q = ap texts_read (both contents a b two p q)
+pub texts_of_one : (files : List (Vec ℕ Global)) (file : Vec ℕ Global) (bytes : List ℕ) → length files ≡ 1
+    → file ≡ get_or files 0 file → bytes ≡ file.items → texts_read files ≡ bytes ∷ []
+texts_of_one files file bytes long is same = ap texts_read (one files file long is) ∙ ap (λ x. x ∷ []) (sym same)
 
-module _ (behaviour : Behaviour) (contents : List (List ℕ)) (first second : List ℕ) (two : contents ≡ first ∷ second ∷ []) (report : Report) where
-  pub IsReplyReport-compiled : (form : CompileForm) → IsCompileReport form first second report
-      → IsReplyReport behaviour (Compiling form) contents report
-  IsReplyReport-compiled form h = record { reply = h.reply; means = (first, second, two, h.compiles); lines = h.lines; status = h.status }
+pub texts_of_both : (files : List (Vec ℕ Global)) (file other : Vec ℕ Global) (bytes more : List ℕ) → length files ≡ 2
+    → file ≡ get_or files 0 file → other ≡ get_or files 1 other → bytes ≡ file.items → more ≡ other.items
+    → texts_read files ≡ bytes ∷ more ∷ []
+texts_of_both files file other bytes more long is is' same same' =
+    ap texts_read (both files file other long is is') ∙ (ap (λ x. x ∷ other.items ∷ []) (sym same) ∙ ap (λ x. bytes ∷ x ∷ []) (sym same'))
 
-  pub IsReplyReport-refuted : (form : RefuteForm) → IsRefuteReport first second report
-      → IsReplyReport behaviour (Refuting form) contents report
-  IsReplyReport-refuted form h = record { reply = h.reply; means = (first, second, two, h.checks); lines = h.lines; status = h.status }
+-- A reply of which something is true, and its lines and status.
+pub IfOk-with : {R E : Type 0} (IsTrueOf : R → Type 0) (lines_of : R → List (List ℕ)) (status_of : R → Status) (reply : R) (result : Result Report E)
+    → IsTrueOf reply → IfOk result (λ report. report.lines.items ≡ lines_of reply)
+    → IfOk result (λ report. report.status ≡ status_of reply) → IfOk result (IsReportWith IsTrueOf lines_of status_of)
+IfOk-with IsTrueOf lines_of status_of reply (Ok report) is lines status =
+    record { reply = reply; is_true = is; lines = lines; status = status }
+IfOk-with IsTrueOf lines_of status_of reply (Err e) is lines status = tt
 
 -- From the parts to the report of a command line.
 
@@ -67,7 +75,7 @@ module _ (world : World) (words : List (List ℕ)) (report : Report) where
   IsReportTo-reply form contents is are h =
       record {
         answer = Replied form h.reply;
-        is_answer = (contents, record { is_form = is; are_contents = are }, h.means);
+        is_answer = (contents, record { is_form = is; are_contents = are }, h.is_true);
         is_report = record { lines = h.lines; status = h.status };
       }
 
@@ -79,11 +87,3 @@ pub IfOk-reported : {E : Type 0} (world : World) (words : List (List ℕ)) (resu
 IfOk-reported world words (Ok report) form contents others same is are h =
     IsReportTo-reply world words report form contents is are (subst (λ xs. IsReplyReport world.behaviour form xs report) same h)
 IfOk-reported world words (Err e) form contents others same is are h = tt
-
--- a reply to a policy and a topology, and its lines and status
-pub IfOk-compiled : {E : Type 0} (form : CompileForm) (policy topology : List ℕ) (reply : CompileReply) (result : Result Report E)
-    → Compiles form policy topology reply → IfOk result (λ report. report.lines.items ≡ compile_lines reply)
-    → IfOk result (λ report. report.status ≡ compile_status reply) → IfOk result (IsCompileReport form policy topology)
-IfOk-compiled form policy topology reply (Ok report) compiles lines status =
-    record { reply = reply; compiles = compiles; lines = lines; status = status }
-IfOk-compiled form policy topology reply (Err e) compiles lines status = tt

@@ -13,9 +13,16 @@ use Rattle.merlin.specs.Reading.{AreContents}
 use Rattle.merlin.specs.Compiler.{IsCompiledFrom}
 use Rattle.merlin.specs.Compile.{CompileForm, compile_files, compile_lines, compile_status, IsCompileReply}
 use Rattle.merlin.specs.Refute.{RefuteForm, refute_files, refute_lines, refute_status, IsRefuted, IsNotRefuted, IsRefuteReply}
-use Rattle.merlin.specs.Commands.{Form, Compiling, Refuting, Reply, IsForm, files_of, Means, reply_lines, reply_status}
+use Rattle.merlin.specs.declared.fair.FairReply.{FairReply}
+use Rattle.merlin.specs.declared.fair.FairReply.TheVariants as fair
+use Rattle.merlin.specs.declared.fairness.FairnessReply.{FairnessReply}
+use Rattle.merlin.specs.declared.fairness.FairnessReply.TheVariants as fairness
+use Rattle.merlin.specs.declared.fairness.FairnessReply.TheVariants.{BadShares, Sound, Unsound}
+use Rattle.merlin.specs.Fair.{FairForm, fair_files, fair_lines, fair_status, IsDivided, IsFairReply}
+use Rattle.merlin.specs.Fairness.{FairnessForm, fairness_files, fairness_lines, fairness_status, HasSoundShares, HasUnsoundShares, IsFairnessReply}
+use Rattle.merlin.specs.Commands.{CommandName, Compiling, Refuting, Dividing, Judging, meaning_of, Form, Reply, IsForm, files_of, Means, reply_lines, reply_status}
 use Rattle.merlin.specs.Outcome.{World, Taking, IsReplied, IsOfRepliesAlone, SaysByStatus}
-use Rattle.merlin.specs.Runs.{HasCompiled, HasChecked, HasRefuted, HasFoundFailure, KeepsPromises}
+use Rattle.merlin.specs.Runs.{HasCompiled, HasChecked, HasRefuted, HasFoundFailure, HasDivided, HasFoundSound, HasFoundUnsound, KeepsPromises}
 use Rattle.merlin.proofs.Unique.{IsForm-same}
 
 done_refused : {A : Type 0} → status.Done ≡ status.Refused → A
@@ -43,36 +50,60 @@ was_least form contents (Refused fault) means e = done_refused e
 was_least form contents (Least result) (p, t, two, from) e =
     record { policy = p; topology = t; two = two; result = result; from = from; is = refl }
 
-record WasRefuted (contents : List (List ℕ)) (reply : RefuteReply) : Type 0 where
-  program : List ℕ
-  tree : List ℕ
-  two : contents ≡ program ∷ tree ∷ []
-  refuted : IsRefuted program tree
-  is : reply ≡ Refuted
+-- The reply was this one, and this holds of the texts of the two files.
+record WasOver {R : Type 0} (contents : List (List ℕ)) (reply known : R) (Holds : List ℕ → List ℕ → Type 0) : Type 0 where
+  first : List ℕ
+  second : List ℕ
+  two : contents ≡ first ∷ second ∷ []
+  holds : Holds first second
+  is : reply ≡ known
 
 was_refuted : (contents : List (List ℕ)) (reply : RefuteReply) → IsRefuteReply contents reply
-    → status.Done ≡ refute_status reply → WasRefuted contents reply
+    → status.Done ≡ refute_status reply → WasOver contents reply Refuted IsRefuted
 was_refuted contents (BadProgram place) means e = done_refused e
 was_refuted contents (BadTree place) means e = done_refused e
 was_refuted contents Refuted (p, t, two, refuted) e =
-    record { program = p; tree = t; two = two; refuted = refuted; is = refl }
+    record { first = p; second = t; two = two; holds = refuted; is = refl }
 was_refuted contents (NotRefuted node) means e = done_no e
 
-record WasNotRefuted (contents : List (List ℕ)) (reply : RefuteReply) : Type 0 where
-  program : List ℕ
-  tree : List ℕ
-  two : contents ≡ program ∷ tree ∷ []
-  node : ℕ
-  fails : IsNotRefuted program tree node
-  is : reply ≡ NotRefuted node
-
 was_not_refuted : (contents : List (List ℕ)) (reply : RefuteReply) → IsRefuteReply contents reply
-    → status.CheckNo ≡ refute_status reply → WasNotRefuted contents reply
+    → status.CheckNo ≡ refute_status reply
+    → (node : ℕ) × WasOver contents reply (NotRefuted node) (λ p t. IsNotRefuted p t node)
 was_not_refuted contents (BadProgram place) means e = no_refused e
 was_not_refuted contents (BadTree place) means e = no_refused e
 was_not_refuted contents Refuted means e = done_no (sym e)
 was_not_refuted contents (NotRefuted node) (p, t, two, fails) e =
-    record { program = p; tree = t; two = two; node = node; fails = fails; is = refl }
+    (node, record { first = p; second = t; two = two; holds = fails; is = refl })
+
+record WasDivided (contents : List (List ℕ)) (reply : FairReply) : Type 0 where
+  demands : List ℕ
+  one : contents ≡ demands ∷ []
+  lines : List (List ℕ)
+  divided : IsDivided demands lines
+  is : fair_lines reply ≡ lines
+
+was_divided : (contents : List (List ℕ)) (reply : FairReply) → IsFairReply contents reply
+    → status.Done ≡ fair_status reply → WasDivided contents reply
+was_divided contents (fair.Refused fault) means e = done_refused e
+was_divided contents (fair.Divided lines) (demands, one, divided) e =
+    record { demands = demands; one = one; lines = lines.items; divided = divided; is = refl }
+
+was_sound : (contents : List (List ℕ)) (reply : FairnessReply) → IsFairnessReply contents reply
+    → status.Done ≡ fairness_status reply → WasOver contents reply Sound HasSoundShares
+was_sound contents (fairness.Refused fault) means e = done_refused e
+was_sound contents (BadShares place) means e = done_refused e
+was_sound contents Sound (d, s, two, sound) e =
+    record { first = d; second = s; two = two; holds = sound; is = refl }
+was_sound contents (Unsound name) means e = done_no e
+
+was_unsound : (contents : List (List ℕ)) (reply : FairnessReply) → IsFairnessReply contents reply
+    → status.CheckNo ≡ fairness_status reply
+    → (name : List ℕ) × WasOver contents reply (Unsound name) (λ d s. HasUnsoundShares d s name)
+was_unsound contents (fairness.Refused fault) means e = no_refused e
+was_unsound contents (BadShares place) means e = no_refused e
+was_unsound contents Sound means e = done_no (sym e)
+was_unsound contents (Unsound name) (d, s, two, unsound) e =
+    (name, record { first = d; second = s; two = two; holds = unsound; is = refl })
 
 -- The same of a run.
 
@@ -90,7 +121,8 @@ module _ (world : World) (sink : Taking) (ended : Status) where
       let there : Gives fact replied.form = subst (Gives fact) same gives in
       there replied.contents replied.asked.are_contents replied.reply replied.means replied.status replied.written
 
-  compiled : (form : CompileForm) → ended ≡ status.Done → Gives (HasCompiled world sink form) (Compiling form)
+  compiled : (form : CompileForm) → ended ≡ status.Done
+      → Gives (HasCompiled world sink form) (record { name = Compiling; request = form })
   compiled form e contents are reply means same grows =
       let was = was_least form contents reply means (sym e ∙ same) in
       record {
@@ -102,38 +134,67 @@ module _ (world : World) (sink : Taking) (ended : Status) where
         written = subst (λ r. Grows sink.before sink.after (joined (compile_lines r))) was.is grows;
       }
 
-  checked : (form : RefuteForm) (contents : List (List ℕ)) (reply r : RefuteReply) (P : List ℕ → List ℕ → Type 0) (program tree : List ℕ)
-      → contents ≡ program ∷ tree ∷ [] → reply ≡ r → P program tree → AreContents world.known (refute_files form) contents
-      → Grows sink.before sink.after (joined (refute_lines reply)) → HasChecked world sink form r P
-  checked form contents reply r P program tree two is holds are grows = record {
-    program = program;
-    tree = tree;
-    are_contents = subst (AreContents world.known (refute_files form)) two are;
-    holds = holds;
-    written = subst (λ r. Grows sink.before sink.after (joined (refute_lines r))) is grows;
+  checked : {R : Type 0} (lines_of : R → List (List ℕ)) (files : List (List ℕ × ℕ)) (contents : List (List ℕ))
+      (reply known : R) (Holds : List ℕ → List ℕ → Type 0) → WasOver contents reply known Holds
+      → AreContents world.known files contents → Grows sink.before sink.after (joined (lines_of reply))
+      → HasChecked world sink files (lines_of known) Holds
+  checked lines_of files contents reply known Holds was are grows = record {
+    first = was.first;
+    second = was.second;
+    are_contents = subst (AreContents world.known files) was.two are;
+    holds = was.holds;
+    written = subst (λ r. Grows sink.before sink.after (joined (lines_of r))) was.is grows;
   }
 
-  refuted : (form : RefuteForm) → ended ≡ status.Done → Gives (HasRefuted world sink form) (Refuting form)
+  refuted : (form : RefuteForm) → ended ≡ status.Done
+      → Gives (HasRefuted world sink form) (record { name = Refuting; request = form })
   refuted form e contents are reply means same grows =
-      let was = was_refuted contents reply means (sym e ∙ same) in
-      checked form contents reply Refuted IsRefuted was.program was.tree was.two was.is was.refuted are grows
+      checked refute_lines (refute_files form) contents reply Refuted IsRefuted (was_refuted contents reply means (sym e ∙ same)) are grows
 
-  failed : (form : RefuteForm) → ended ≡ status.CheckNo → Gives (HasFoundFailure world sink form) (Refuting form)
+  failed : (form : RefuteForm) → ended ≡ status.CheckNo
+      → Gives (HasFoundFailure world sink form) (record { name = Refuting; request = form })
   failed form e contents are reply means same grows =
       let was = was_not_refuted contents reply means (sym e ∙ same) in
-      (was.node, checked form contents reply (NotRefuted was.node) (λ p t. IsNotRefuted p t was.node) was.program was.tree was.two was.is was.fails are grows)
+      (was.0, checked refute_lines (refute_files form) contents reply (NotRefuted was.0) (λ p t. IsNotRefuted p t was.0) was.1 are grows)
+
+  divided : (form : FairForm) → ended ≡ status.Done
+      → Gives (HasDivided world sink form) (record { name = Dividing; request = form })
+  divided form e contents are reply means same grows =
+      let was = was_divided contents reply means (sym e ∙ same) in
+      record {
+        demands = was.demands;
+        are_contents = subst (AreContents world.known (fair_files form)) was.one are;
+        lines = was.lines;
+        divided = was.divided;
+        written = subst (λ lines. Grows sink.before sink.after (joined lines)) was.is grows;
+      }
+
+  judged : (form : FairnessForm) → ended ≡ status.Done
+      → Gives (HasFoundSound world sink form) (record { name = Judging; request = form })
+  judged form e contents are reply means same grows =
+      checked fairness_lines (fairness_files form) contents reply Sound HasSoundShares (was_sound contents reply means (sym e ∙ same)) are grows
+
+  unsound : (form : FairnessForm) → ended ≡ status.CheckNo
+      → Gives (HasFoundUnsound world sink form) (record { name = Judging; request = form })
+  unsound form e contents are reply means same grows =
+      let was = was_unsound contents reply means (sym e ∙ same) in
+      (was.0, checked fairness_lines (fairness_files form) contents reply (Unsound was.0) (λ d s. HasUnsoundShares d s was.0) was.1 are grows)
+
+  -- a status that replies alone have is that of a reply
+  of_reply : (fact : Type 0) (words : List (List ℕ)) (name : CommandName) (request : (meaning_of name).Request) (known : Status)
+      → IsOfRepliesAlone known → ended ≡ known → Gives fact (record { name = name; request = request })
+      → (meaning_of name).IsRequest words request → SaysByStatus world sink words ended → fact
+  of_reply fact words name request known alone e gives is says =
+      by_form fact words (record { name = name; request = request }) gives is (says.replied (subst IsOfRepliesAlone (sym e) alone))
 
 pub KeepsPromises-from_outcome : (world : World) (sink : Taking) (words : List (List ℕ)) (ended : Status)
     → SaysByStatus world sink words ended → KeepsPromises world sink words ended
 KeepsPromises-from_outcome world sink words ended says =
     record {
-      compiled = λ form is e.
-          by_form world sink ended (HasCompiled world sink form) words (Compiling form) (compiled world sink ended form e) is
-          (says.replied (subst IsOfRepliesAlone (sym e) tt));
-      refuted = λ form is e.
-          by_form world sink ended (HasRefuted world sink form) words (Refuting form) (refuted world sink ended form e) is
-          (says.replied (subst IsOfRepliesAlone (sym e) tt));
-      failed = λ form is e.
-          by_form world sink ended (HasFoundFailure world sink form) words (Refuting form) (failed world sink ended form e) is
-          (says.replied (subst IsOfRepliesAlone (sym e) tt));
+      compiled = λ form is e. of_reply world sink ended _ words Compiling form status.Done tt e (compiled world sink ended form e) is says;
+      refuted = λ form is e. of_reply world sink ended _ words Refuting form status.Done tt e (refuted world sink ended form e) is says;
+      failed = λ form is e. of_reply world sink ended _ words Refuting form status.CheckNo tt e (failed world sink ended form e) is says;
+      divided = λ form is e. of_reply world sink ended _ words Dividing form status.Done tt e (divided world sink ended form e) is says;
+      judged = λ form is e. of_reply world sink ended _ words Judging form status.Done tt e (judged world sink ended form e) is says;
+      unsound = λ form is e. of_reply world sink ended _ words Judging form status.CheckNo tt e (unsound world sink ended form e) is says;
     }

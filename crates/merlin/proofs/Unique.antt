@@ -1,6 +1,7 @@
 -- Words and told contents have one reading.
-use Rattle.std.proofs.Common.{◌≡◌, ◌≤◌, ℕ, List, [], ◌∷◌, length, sym, ◌∙◌, ap, subst, refl, inl, inr, arith}
-use Rattle.std.specs.Prelude.{Option, Some}
+use Rattle.std.proofs.Common.{◌≡◌, ◌≤◌, ℕ, List, [], ◌∷◌, length, sym, ◌∙◌, ap, subst, refl, inl, inr, arith, unwrap_or}
+use Rattle.std.specs.Prelude.{Option, Some, None, codes, if◌then◌else◌}
+use Rattle.std.specs.Str.{bytes_eq}
 use Rattle.merlin_base.specs.Outside.{IsFile, IsLongerThan}
 use Rattle.merlin_base.specs.Lexemes.{number_of}
 use Rattle.merlin_model.specs.declared.policy.Objective.{Objective}
@@ -8,7 +9,9 @@ use Rattle.merlin_model.specs.declared.policy.Objective.TheVariants.{Shortest, R
 use Rattle.config_text.specs.Result.{objective_word}
 use Rattle.merlin.specs.Compile.{CompileForm, IsCompileForm, IsBudget}
 use Rattle.merlin.specs.Refute.{RefuteForm, IsRefuteForm}
-use Rattle.merlin.specs.Commands.{Form, Compiling, Refuting, IsForm}
+use Rattle.merlin.specs.Fair.{FairForm, IsFairForm}
+use Rattle.merlin.specs.Fairness.{FairnessForm, IsFairnessForm}
+use Rattle.merlin.specs.Commands.{CommandName, Compiling, Refuting, Dividing, Judging, meaning_of, Form, IsForm}
 use Rattle.merlin.specs.Reading.{AreContents, IsFirstTooLong}
 
 unlike : {A : Type 0} (x y : ℕ) (xs ys : List ℕ) → x ∷ xs ≡ y ∷ ys → (x ≡ y → ⊥) → A
@@ -56,12 +59,64 @@ IsRefuteForm-same words f g e e' =
     let tree : f.tree ≡ g.tree = cc in
     λ i. record { program = program i; tree = tree i }
 
--- The words are one form: commands begin with different words.
+IsFairForm-same : (words : List (List ℕ)) (f g : FairForm) → IsFairForm words f
+    → IsFairForm words g → f ≡ g
+IsFairForm-same words f g e e' =
+    let demands : f.demands ≡ g.demands = cc in
+    λ i. record { demands = demands i }
+
+IsFairnessForm-same : (words : List (List ℕ)) (f g : FairnessForm) → IsFairnessForm words f
+    → IsFairnessForm words g → f ≡ g
+IsFairnessForm-same words f g e e' =
+    let demands : f.demands ≡ g.demands = cc in
+    let shares : f.shares ≡ g.shares = cc in
+    λ i. record { demands = demands i; shares = shares i }
+
+request_same : (name : CommandName) (words : List (List ℕ)) (f g : (meaning_of name).Request)
+    → (meaning_of name).IsRequest words f → (meaning_of name).IsRequest words g → f ≡ g
+request_same Compiling = IsCompileForm-same
+request_same Refuting = IsRefuteForm-same
+request_same Dividing = IsFairForm-same
+request_same Judging = IsFairnessForm-same
+
+-- The words are one form: each command begins with its own word.
+
+abbrev name_of_word : List ℕ → Option CommandName
+name_of_word word =
+    if bytes_eq word (codes "compile") then Some Compiling else
+    if bytes_eq word (codes "refute") then Some Refuting else
+    if bytes_eq word (codes "fair") then Some Dividing else
+    if bytes_eq word (codes "fairness") then Some Judging else None
+
+name_of_its_word : (name : CommandName) → name_of_word (meaning_of name).word ≡ Some name
+name_of_its_word Compiling = refl
+name_of_its_word Refuting = refl
+name_of_its_word Dividing = refl
+name_of_its_word Judging = refl
+
+begins : (name : CommandName) (words : List (List ℕ)) (request : (meaning_of name).Request)
+    → (meaning_of name).IsRequest words request
+    → (rest : List (List ℕ)) × (words ≡ (meaning_of name).word ∷ rest)
+begins Compiling words request (rest, e, budget) = (_, e)
+begins Refuting words request e = (_, e)
+begins Dividing words request e = (_, e)
+begins Judging words request e = (_, e)
+
+Some-inj : {X : Type 0} {x y : X} → Some x ≡ Some y → x ≡ y
+Some-inj {x = x} e = ap (λ o. unwrap_or o x) e
+
+name_same : (words : List (List ℕ)) (f g : Form) → IsForm words f → IsForm words g → f.name ≡ g.name
+name_same words f g is is' =
+    let front = begins f.name words f.request is in
+    let front' = begins g.name words g.request is' in
+    let word : (meaning_of f.name).word ≡ (meaning_of g.name).word = head (sym front.1 ∙ front'.1) in
+    Some-inj (sym (name_of_its_word f.name) ∙ ap name_of_word word ∙ name_of_its_word g.name)
+
 pub IsForm-same : (words : List (List ℕ)) (f g : Form) → IsForm words f → IsForm words g → f ≡ g
-IsForm-same words (Compiling f) (Compiling g) is is' = ap Compiling (IsCompileForm-same words f g is is')
-IsForm-same words (Refuting f) (Refuting g) is is' = ap Refuting (IsRefuteForm-same words f g is is')
-IsForm-same words (Compiling f) (Refuting g) (rest, e, budget) e' = unlike _ _ _ _ (head (sym e ∙ e')) (λ h. omega (arith, h))
-IsForm-same words (Refuting f) (Compiling g) e (rest', e', budget') = unlike _ _ _ _ (head (sym e ∙ e')) (λ h. omega (arith, h))
+IsForm-same words f g is is' = subst (λ name. (request : (meaning_of name).Request)
+    → (meaning_of name).IsRequest words request → f ≡ record { name = name; request = request }) (name_same words f g is is')
+    (λ request asked. ap (λ r. record { name = f.name; request = r }) (request_same f.name words f.request request is asked))
+    g.request is'
 
 IsFile-same : (known : List ℕ → Option (List ℕ)) (name xs ys : List ℕ) → IsFile (Some known) name xs
     → IsFile (Some known) name ys → xs ≡ ys

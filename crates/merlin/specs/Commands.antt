@@ -1,47 +1,105 @@
--- The commands. A new one has a line in each of these definitions.
-use Rattle.std.specs.Prelude.{◌≡◌, ℕ, List, [], ◌∷◌}
+-- The commands. A new one has a name, what it is, and its form here.
+use Rattle.std.specs.Prelude.{ℕ, List, codes}
 use Rattle.merlin_base.specs.declared.status.Status.{Status}
 use Rattle.merlin_model.specs.Functions.{Behaviour}
 use Rattle.merlin.specs.declared.commands.Command.{Command}
 use Rattle.merlin.specs.declared.commands.Command.TheVariants as commands
 use Rattle.merlin.specs.declared.compile.CompileReply.{CompileReply}
 use Rattle.merlin.specs.declared.refute.RefuteReply.{RefuteReply}
+use Rattle.merlin.specs.declared.fair.FairReply.{FairReply}
+use Rattle.merlin.specs.declared.fairness.FairnessReply.{FairnessReply}
 use Rattle.merlin.specs.Compile.{CompileForm, IsCompileForm, compile_files, IsCompileReply, compile_lines, compile_status, compile_form}
 use Rattle.merlin.specs.Refute.{RefuteForm, IsRefuteForm, refute_files, IsRefuteReply, refute_lines, refute_status, refute_form}
+use Rattle.merlin.specs.Fair.{FairForm, IsFairForm, fair_files, IsFairReply, fair_lines, fair_status, fair_form}
+use Rattle.merlin.specs.Fairness.{FairnessForm, IsFairnessForm, fairness_files, IsFairnessReply, fairness_lines, fairness_status, fairness_form}
+
+pub data CommandName : Type 0 where
+  Compiling : CommandName
+  Refuting : CommandName
+  Dividing : CommandName
+  Judging : CommandName
+
+-- What a command is: the word that stands first, what its words may ask for, its files in the order
+-- of the words, each with the most bytes that it may have, what may be replied, what a reply means of
+-- the contents of the files, and the lines and the status of a reply.
+pub record CommandMeaning : Type 1 where
+  pub word : List ℕ
+  pub Request : Type 0
+  pub IsRequest : List (List ℕ) → Request → Type 0
+  pub files : Request → List (List ℕ × ℕ)
+  pub ReplyTo : Type 0
+  pub IsReply : Behaviour → Request → List (List ℕ) → ReplyTo → Type 0
+  pub lines : ReplyTo → List (List ℕ)
+  pub status : ReplyTo → Status
+
+abbrev pub meaning_of : CommandName → CommandMeaning
+meaning_of Compiling = record {
+  word = codes "compile";
+  Request = CompileForm;
+  IsRequest = IsCompileForm;
+  files = compile_files;
+  ReplyTo = CompileReply;
+  IsReply = λ behaviour. IsCompileReply;
+  lines = compile_lines;
+  status = compile_status;
+}
+meaning_of Refuting = record {
+  word = codes "refute";
+  Request = RefuteForm;
+  IsRequest = IsRefuteForm;
+  files = refute_files;
+  ReplyTo = RefuteReply;
+  IsReply = λ behaviour form. IsRefuteReply;
+  lines = refute_lines;
+  status = refute_status;
+}
+meaning_of Dividing = record {
+  word = codes "fair";
+  Request = FairForm;
+  IsRequest = IsFairForm;
+  files = fair_files;
+  ReplyTo = FairReply;
+  IsReply = λ behaviour form. IsFairReply;
+  lines = fair_lines;
+  status = fair_status;
+}
+meaning_of Judging = record {
+  word = codes "fairness";
+  Request = FairnessForm;
+  IsRequest = IsFairnessForm;
+  files = fairness_files;
+  ReplyTo = FairnessReply;
+  IsReply = λ behaviour form. IsFairnessReply;
+  lines = fairness_lines;
+  status = fairness_status;
+}
 
 -- a command, as its words ask for it
-pub data Form : Type 0 where
-  Compiling : CompileForm → Form
-  Refuting : RefuteForm → Form
+pub record Form : Type 0 where
+  pub name : CommandName
+  pub request : (meaning_of name).Request
 
 abbrev pub form_of : Command → Form
-form_of (commands.Compile words) = Compiling (compile_form words)
-form_of (commands.Refute words) = Refuting (refute_form words)
+form_of (commands.Compile words) = record { name = Compiling; request = compile_form words }
+form_of (commands.Refute words) = record { name = Refuting; request = refute_form words }
+form_of (commands.Fair words) = record { name = Dividing; request = fair_form words }
+form_of (commands.Fairness words) = record { name = Judging; request = fairness_form words }
 
 -- the words ask for this
 abbrev pub IsForm : List (List ℕ) → Form → Type 0
-IsForm words (Compiling form) = IsCompileForm words form
-IsForm words (Refuting form) = IsRefuteForm words form
+IsForm words form = (meaning_of form.name).IsRequest words form.request
 
--- the files of a command in the order of its words, each with the most bytes that it may have
 abbrev pub files_of : Form → List (List ℕ × ℕ)
-files_of (Compiling form) = compile_files form
-files_of (Refuting form) = refute_files form
+files_of form = (meaning_of form.name).files form.request
 
--- what may be replied to a command
 abbrev pub Reply : Form → Type 0
-Reply (Compiling form) = CompileReply
-Reply (Refuting form) = RefuteReply
+Reply form = (meaning_of form.name).ReplyTo
 
--- what a reply means of the contents of the files
 abbrev pub Means : Behaviour → (form : Form) → List (List ℕ) → Reply form → Type 0
-Means behaviour (Compiling form) contents reply = IsCompileReply form contents reply
-Means behaviour (Refuting form) contents reply = IsRefuteReply contents reply
+Means behaviour form contents reply = (meaning_of form.name).IsReply behaviour form.request contents reply
 
 abbrev pub reply_lines : (form : Form) → Reply form → List (List ℕ)
-reply_lines (Compiling form) reply = compile_lines reply
-reply_lines (Refuting form) reply = refute_lines reply
+reply_lines form reply = (meaning_of form.name).lines reply
 
 abbrev pub reply_status : (form : Form) → Reply form → Status
-reply_status (Compiling form) reply = compile_status reply
-reply_status (Refuting form) reply = refute_status reply
+reply_status form reply = (meaning_of form.name).status reply

@@ -1,8 +1,11 @@
 pub mod Words
 pub mod Reading
+pub mod Reports
 pub mod Compiler
 pub mod Compile
 pub mod Refute
+pub mod Fair
+pub mod Fairness
 pub mod Commands
 pub mod Outcome
 pub mod Parts

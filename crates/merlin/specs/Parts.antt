@@ -11,32 +11,14 @@ use Rattle.merlin.specs.declared.reading.Unread.{Unread}
 use Rattle.merlin.specs.declared.reading.Unread.TheVariants as unread
 use Rattle.merlin.specs.declared.compile.CompileReply.{CompileReply}
 use Rattle.merlin.specs.declared.compile.CompileReply.TheVariants.{Refused, Least}
-use Rattle.merlin.specs.declared.refute.RefuteReply.{RefuteReply}
-use Rattle.merlin.specs.Compile.{CompileForm, Compiles, compile_lines, compile_status}
-use Rattle.merlin.specs.Refute.{Checks, refute_lines, refute_status}
-use Rattle.merlin.specs.Commands.{Form, Reply, Means, reply_lines, reply_status}
-use Rattle.merlin.specs.Outcome.{World, Taking, IsBrokenOff, LacksMemory, Answer, NoForm, NotRead, TooLong, IsAnswerTo, answer_lines, answer_status}
+use Rattle.merlin.specs.Reports.{IsReportWith}
+use Rattle.merlin.specs.Commands.{Form, Means, reply_lines, reply_status}
+use Rattle.merlin.specs.Outcome.{World, Taking, IsBrokenOff, LacksMemory, Answer, NotRead, TooLong, IsAnswerTo, answer_lines, answer_status}
 
--- the report has the lines and the status of a reply
-pub record IsCompileReport (form : CompileForm) (policy topology : List ℕ) (report : Report)
-    : Type 0 where
-  pub reply : CompileReply
-  pub compiles : Compiles form policy topology reply
-  pub lines : report.lines.items ≡ compile_lines reply
-  pub status : report.status ≡ compile_status reply
-
-pub record IsRefuteReport (program tree : List ℕ) (report : Report) : Type 0 where
-  pub reply : RefuteReply
-  pub checks : Checks program tree reply
-  pub lines : report.lines.items ≡ refute_lines reply
-  pub status : report.status ≡ refute_status reply
-
-pub record IsReplyReport (behaviour : Behaviour) (form : Form) (contents : List (List ℕ))
-    (report : Report) : Type 0 where
-  pub reply : Reply form
-  pub means : Means behaviour form contents reply
-  pub lines : report.lines.items ≡ reply_lines form reply
-  pub status : report.status ≡ reply_status form reply
+-- what is reported of a reply to a form over these contents
+abbrev pub IsReplyReport : Behaviour → Form → List (List ℕ) → Report → Type 0
+IsReplyReport behaviour form contents =
+    IsReportWith (Means behaviour form contents) (reply_lines form) (reply_status form)
 
 -- the report has the lines and the status of an answer
 pub record IsReportOf (answer : Answer) (report : Report) : Type 0 where

@@ -4,15 +4,16 @@ use Rattle.merlin_base.specs.Texts.{joined}
 use Rattle.merlin_base.specs.Outside.{Grows}
 use Rattle.merlin.specs.declared.compiler.Compiled.{Compiled}
 use Rattle.merlin.specs.declared.compile.CompileReply.TheVariants.{Least}
-use Rattle.merlin.specs.declared.refute.RefuteReply.{RefuteReply}
 use Rattle.merlin.specs.declared.refute.RefuteReply.TheVariants.{Refuted, NotRefuted}
 use Rattle.merlin.specs.Reading.{AreContents}
 use Rattle.merlin.specs.Compiler.{IsCompiledFrom}
-use Rattle.merlin.specs.Compile.{CompileForm, compile_files, compile_lines}
-use Rattle.merlin.specs.Refute.{RefuteForm, refute_files, refute_lines, IsRefuted, IsNotRefuted}
+use Rattle.merlin.specs.Compile.{CompileForm, IsCompileForm, compile_files, compile_lines}
+use Rattle.merlin.specs.Refute.{RefuteForm, IsRefuteForm, refute_files, refute_lines, IsRefuted, IsNotRefuted}
+use Rattle.merlin.specs.declared.fairness.FairnessReply.TheVariants.{Sound, Unsound}
+use Rattle.merlin.specs.Fair.{FairForm, IsFairForm, fair_files, IsDivided}
+use Rattle.merlin.specs.Fairness.{FairnessForm, IsFairnessForm, fairness_files, fairness_lines, HasSoundShares, HasUnsoundShares}
 use Rattle.merlin_base.specs.declared.status.Status.{Status}
 use Rattle.merlin_base.specs.declared.status.Status.TheVariants as status
-use Rattle.merlin.specs.Commands.{Compiling, Refuting, IsForm}
 use Rattle.merlin.specs.Outcome.{World, Taking}
 
 -- The sink took exactly the text of the result for these files, and the configuration in it
@@ -25,32 +26,61 @@ pub record HasCompiled (world : World) (sink : Taking) (form : CompileForm) : Ty
   pub from : IsCompiledFrom policy topology form.objective compiled
   pub written : Grows sink.before sink.after (joined (compile_lines (Least compiled)))
 
--- The sink took the line of this reply, and this holds of the texts of the two files.
-pub record HasChecked (world : World) (sink : Taking) (form : RefuteForm) (reply : RefuteReply)
-    (Holds : List ℕ → List ℕ → Type 0) : Type 0 where
-  pub program : List ℕ
-  pub tree : List ℕ
-  pub are_contents : AreContents world.known (refute_files form) (program ∷ tree ∷ [])
-  pub holds : Holds program tree
-  pub written : Grows sink.before sink.after (joined (refute_lines reply))
+-- The sink took these lines, and this holds of the texts of the two files.
+pub record HasChecked (world : World) (sink : Taking) (files : List (List ℕ × ℕ))
+    (lines : List (List ℕ)) (Holds : List ℕ → List ℕ → Type 0) : Type 0 where
+  pub first : List ℕ
+  pub second : List ℕ
+  pub are_contents : AreContents world.known files (first ∷ second ∷ [])
+  pub holds : Holds first second
+  pub written : Grows sink.before sink.after (joined lines)
 
 -- The sink took the one line, and the program of the first file has no solution.
 abbrev pub HasRefuted : World → Taking → RefuteForm → Type 0
-HasRefuted world sink form = HasChecked world sink form Refuted IsRefuted
+HasRefuted world sink form =
+    HasChecked world sink (refute_files form) (refute_lines Refuted) IsRefuted
 
 -- The sink took the number of the first node of the tree that fails.
 abbrev pub HasFoundFailure : World → Taking → RefuteForm → Type 0
-HasFoundFailure world sink form =
-    (node : ℕ) × HasChecked world sink form (NotRefuted node) (λ program tree. IsNotRefuted program tree node)
+HasFoundFailure world sink form = (node : ℕ)
+    × HasChecked world sink (refute_files form) (refute_lines (NotRefuted node))
+    (λ program tree. IsNotRefuted program tree node)
+
+-- The sink took the lines of a best division of the demands in the file.
+pub record HasDivided (world : World) (sink : Taking) (form : FairForm) : Type 0 where
+  pub demands : List ℕ
+  pub are_contents : AreContents world.known (fair_files form) (demands ∷ [])
+  pub lines : List (List ℕ)
+  pub divided : IsDivided demands lines
+  pub written : Grows sink.before sink.after (joined lines)
+
+-- The sink took the one line, and the division of the second file is the best.
+abbrev pub HasFoundSound : World → Taking → FairnessForm → Type 0
+HasFoundSound world sink form =
+    HasChecked world sink (fairness_files form) (fairness_lines Sound) HasSoundShares
+
+-- The sink took the name of the first tenant at fault.
+abbrev pub HasFoundUnsound : World → Taking → FairnessForm → Type 0
+HasFoundUnsound world sink form = (name : List ℕ)
+    × HasChecked world sink (fairness_files form) (fairness_lines (Unsound name))
+    (λ demands shares. HasUnsoundShares demands shares name)
 
 -- What a reader asks of each command. To compile: with Done the sink took exactly the text of a
 -- result that keeps its promise. To refute: with
--- Done the program has no solution, and with CheckNo the first node that fails was named.
+-- Done the program has no solution, and with CheckNo the first node that fails was named. To divide:
+-- with Done the division is the best. To judge: with Done it is, and with CheckNo the first tenant at
+-- fault was named.
 pub record KeepsPromises (world : World) (sink : Taking) (words : List (List ℕ)) (ended : Status)
     : Type 0 where
-  pub compiled : (form : CompileForm) → IsForm words (Compiling form) → ended ≡ status.Done
+  pub compiled : (form : CompileForm) → IsCompileForm words form → ended ≡ status.Done
       → HasCompiled world sink form
-  pub refuted : (form : RefuteForm) → IsForm words (Refuting form) → ended ≡ status.Done
+  pub refuted : (form : RefuteForm) → IsRefuteForm words form → ended ≡ status.Done
       → HasRefuted world sink form
-  pub failed : (form : RefuteForm) → IsForm words (Refuting form) → ended ≡ status.CheckNo
+  pub failed : (form : RefuteForm) → IsRefuteForm words form → ended ≡ status.CheckNo
       → HasFoundFailure world sink form
+  pub divided : (form : FairForm) → IsFairForm words form → ended ≡ status.Done
+      → HasDivided world sink form
+  pub judged : (form : FairnessForm) → IsFairnessForm words form → ended ≡ status.Done
+      → HasFoundSound world sink form
+  pub unsound : (form : FairnessForm) → IsFairnessForm words form → ended ≡ status.CheckNo
+      → HasFoundUnsound world sink form

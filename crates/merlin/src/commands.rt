@@ -7,6 +7,8 @@ ghost use Rattle.merlin.specs.Outcome.{IsNoForm, behaviour_by};
 ghost use Rattle.merlin.specs.Parts.{IsReplyReport};
 
 use crate::compile::{Compile, compile_of, compile_report, files_to_compile};
+use crate::fair::{Fair, fair_of, fair_report, files_to_divide};
+use crate::fairness::{Fairness, fairness_of, fairness_report, files_to_judge};
 use crate::reading::{Unread, read_files};
 use crate::refute::{Refute, files_to_refute, refute_of, refute_report};
 use crate::report::Report;
@@ -20,6 +22,8 @@ use topology::FnDecl;
 pub enum Command<'a> {
     Compile(Compile<'a>),
     Refute(Refute<'a>),
+    Fair(Fair<'a>),
+    Fairness(Fairness<'a>),
 }
 
 /// The command that the words are, if they are one.
@@ -32,6 +36,12 @@ pub fn command_of(words: &[String]) -> Option<Command<'_>>
     }
     if let Some(command) = refute_of(words) {
         return Some(Command::Refute(command));
+    }
+    if let Some(command) = fair_of(words) {
+        return Some(Command::Fair(command));
+    }
+    if let Some(command) = fairness_of(words) {
+        return Some(Command::Fairness(command));
     }
     None
 }
@@ -52,6 +62,8 @@ pub fn contents_for<F: Files>(
     match command {
         Command::Compile(words) => read_files(alloc, files, &files_to_compile(words)),
         Command::Refute(words) => read_files(alloc, files, &files_to_refute(words)),
+        Command::Fair(words) => read_files(alloc, files, &files_to_divide(words)),
+        Command::Fairness(words) => read_files(alloc, files, &files_to_judge(words)),
     }
 }
 
@@ -68,7 +80,9 @@ pub fn report_over<A: Fn(&FnDecl, Packet) -> Packet + Drop>(
         IfOk result (IsReplyReport behaviour (form_of command.entry) (texts_read contents.now)) }
 {
     match command {
-        Command::Compile(words) => compile_report(alloc, words, &contents[0], &contents[1]),
-        Command::Refute(_) => refute_report(alloc, &contents[0], &contents[1]),
+        Command::Compile(words) => compile_report(alloc, words, contents),
+        Command::Refute(_) => refute_report(alloc, contents),
+        Command::Fair(_) => fair_report(alloc, contents),
+        Command::Fairness(_) => fairness_report(alloc, contents),
     }
 }

@@ -1,14 +1,16 @@
 //! The command `compile`.
-ghost use Rattle.std.specs.Prelude.{◌≡◌, ◌≢◌, ◌++◌, ℕ, OnOk, IfOk, IfSome, IfNone, codes};
+ghost use Rattle.std.specs.Prelude.{◌≡◌, ◌≢◌, ◌++◌, ℕ, length, OnOk, IfOk, IfSome, IfNone, codes};
 ghost use Rattle.std.specs.String.{string_bytes};
 ghost use Rattle.config_text.specs.Words.{line};
 ghost use Rattle.config_text.specs.Result.{value_text, objective_word};
 ghost use Rattle.merlin.specs.Words.{word_texts};
-ghost use Rattle.merlin.specs.Reading.{files_wanted};
+ghost use Rattle.merlin.specs.Reading.{files_wanted, texts_read};
 ghost use Rattle.merlin.specs.Compile.{CompileForm, IsBudget, IsCompileForm, compile_form};
 ghost use Rattle.merlin.specs.Compile.{compile_files, Compiles, compiled_lines, compile_lines};
+ghost use Rattle.merlin.specs.Compile.{IsCompileReply};
 ghost use Rattle.merlin.specs.Compile.{compile_status, head_lines, leaf_lines};
-ghost use Rattle.merlin.specs.Parts.{IsPrintable, IsCompileReport};
+ghost use Rattle.merlin.specs.Parts.{IsPrintable};
+ghost use Rattle.merlin.specs.Reports.{IsReportWith};
 
 use crate::compiler::{Compiled, EarlyFault, compile_policy};
 use crate::reading::{TEXT_LIMIT, Wanted};
@@ -226,16 +228,17 @@ fn report_on(alloc: Global, reply: &CompileReply) -> Result<Report, OutOfMemory>
     })
 }
 
-/// What is reported of a policy and a topology.
+/// What is reported of the contents of its files.
 pub fn compile_report(
     alloc: Global,
     command: Compile,
-    policy: &[u8],
-    topology: &[u8],
+    contents: &[Vec<u8>],
 ) -> Result<Report, OutOfMemory>
-    ensures { IfOk result (IsCompileReport (compile_form command.entry) policy.now topology.now) }
+    requires { length contents.now ≡ 2 }
+    ensures { let is_reply = IsCompileReply (compile_form command.entry) (texts_read contents.now) in
+        IfOk result (IsReportWith is_reply compile_lines compile_status) }
 {
-    match compile_reply(alloc, command, policy, topology) {
+    match compile_reply(alloc, command, &contents[0], &contents[1]) {
         Ok(reply) => report_on(alloc, &reply),
         Err(OutOfMemory) => Err(OutOfMemory),
     }

@@ -14,6 +14,14 @@ ghost use Rattle.merlin.specs.declared.refute.RefuteReply.TheVariants as refute;
 ghost use Rattle.merlin.specs.Compile.{CompileForm, IsCompileReply, compile_status};
 ghost use Rattle.merlin.specs.Compiler.{IsSupportedText};
 ghost use Rattle.merlin.specs.Refute.{IsProgramOf, IsTreeOf, IsRefuteReply, refute_status};
+ghost use Rattle.fair_share.specs.declared.share.Share.{Share};
+ghost use Rattle.fair_share.specs.Shares.{Demands, IsSound};
+ghost use Rattle.fair_share.specs.Reading.{IsDemandsText};
+ghost use Rattle.merlin.specs.declared.fair.FairReply.{FairReply};
+ghost use Rattle.merlin.specs.declared.fairness.FairnessReply.{FairnessReply};
+ghost use Rattle.merlin.specs.declared.fairness.FairnessReply.TheVariants as fairness;
+ghost use Rattle.merlin.specs.Fair.{IsFairReply, fair_status};
+ghost use Rattle.merlin.specs.Fairness.{AreReadAs, IsFairnessReply, fairness_status};
 
 /// A policy that is built and a topology that stands for a network are done. In any case two replies
 /// to the same files have one status.
@@ -39,4 +47,28 @@ pub fn refute_replies()
     ensures one { (contents : List (List ℕ)) (reply other : RefuteReply) →
         IsRefuteReply contents reply → IsRefuteReply contents other →
         refute_status other ≡ refute_status reply }
+{}
+
+/// Demands that bytes stand for are divided. In any case two replies to the same file have one status.
+pub fn fair_replies()
+    ensures done { (bytes : List ℕ) (demands : Demands) (reply : FairReply) →
+        IsDemandsText bytes demands → IsFairReply (bytes ∷ []) reply →
+        fair_status reply ≡ status.Done }
+    ensures one { (contents : List (List ℕ)) (reply other : FairReply) →
+        IsFairReply contents reply → IsFairReply contents other →
+        fair_status other ≡ fair_status reply }
+{}
+
+/// A division of which each line is right and that is feasible has the reply `Sound`, and any other
+/// has CheckNo. In any case two replies to the same files have one status.
+pub fn fairness_replies()
+    ensures sound { (bytes text : List ℕ) (demands : Demands) (shares : List Share)
+        (reply : FairnessReply) → AreReadAs bytes text demands shares → IsSound demands shares →
+        IsFairnessReply (bytes ∷ text ∷ []) reply → reply ≡ fairness.Sound }
+    ensures unsound { (bytes text : List ℕ) (demands : Demands) (shares : List Share)
+        (reply : FairnessReply) → AreReadAs bytes text demands shares → ¬ IsSound demands shares →
+        IsFairnessReply (bytes ∷ text ∷ []) reply → fairness_status reply ≡ status.CheckNo }
+    ensures one { (contents : List (List ℕ)) (reply other : FairnessReply) →
+        IsFairnessReply contents reply → IsFairnessReply contents other →
+        fairness_status other ≡ fairness_status reply }
 {}

@@ -4,6 +4,8 @@
 mod commands;
 mod compile;
 mod compiler;
+mod fair;
+mod fairness;
 pub mod laws;
 mod program;
 mod reading;

@@ -1,10 +1,10 @@
 //! The command `refute`.
-ghost use Rattle.std.specs.Prelude.{◌≡◌, IfOk, IfSome, IfNone};
+ghost use Rattle.std.specs.Prelude.{◌≡◌, length, IfOk, IfSome, IfNone};
 ghost use Rattle.merlin.specs.Words.{word_texts};
-ghost use Rattle.merlin.specs.Reading.{files_wanted};
+ghost use Rattle.merlin.specs.Reading.{files_wanted, texts_read};
 ghost use Rattle.merlin.specs.Refute.{RefuteForm, IsRefuteForm, refute_form, refute_files};
-ghost use Rattle.merlin.specs.Refute.{Checks, refute_lines, refute_status};
-ghost use Rattle.merlin.specs.Parts.{IsRefuteReport};
+ghost use Rattle.merlin.specs.Refute.{Checks, IsRefuteReply, refute_lines, refute_status};
+ghost use Rattle.merlin.specs.Reports.{IsReportWith};
 
 use crate::reading::{TEXT_LIMIT, Wanted};
 use crate::report::{Report, numbered_line, one_line};
@@ -108,14 +108,23 @@ fn status_of(reply: RefuteReply) -> Status
     }
 }
 
-/// What is reported of a program and a tree.
-pub fn refute_report(alloc: Global, program: &[u8], tree: &[u8]) -> Result<Report, OutOfMemory>
-    ensures { IfOk result (IsRefuteReport program.now tree.now) }
+fn report_on(alloc: Global, reply: RefuteReply) -> Result<Report, OutOfMemory>
+    ensures lines { IfOk result (λ report. report.lines.items ≡ refute_lines reply) }
+    ensures status { IfOk result (λ report. report.status ≡ refute_status reply) }
 {
-    let reply = refute_reply(alloc, program, tree)?;
     let lines = lines_of(alloc, reply)?;
     Ok(Report {
         lines,
         status: status_of(reply),
     })
+}
+
+/// What is reported of the contents of its files.
+pub fn refute_report(alloc: Global, contents: &[Vec<u8>]) -> Result<Report, OutOfMemory>
+    requires { length contents.now ≡ 2 }
+    ensures { let is_reply = IsRefuteReply (texts_read contents.now) in
+        IfOk result (IsReportWith is_reply refute_lines refute_status) }
+{
+    let reply = refute_reply(alloc, &contents[0], &contents[1])?;
+    report_on(alloc, reply)
 }

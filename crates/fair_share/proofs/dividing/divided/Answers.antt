@@ -2,7 +2,7 @@ use Rattle.std.proofs.Common.{◌≡◌, zero, ◌+◌, ◌<◌, ◌++◌, ◌�
 use Rattle.std.proofs.lemmas.List.{length-replicate}
 use Rattle.std.specs.List.{AllZip}
 use Rattle.fair_share.specs.Shares.{IsFeasible, share_rates}
-use Rattle.fair_share.specs.Filling.{demands, AreUsed, AreTops, IsSettled, IsNamed}
+use Rattle.fair_share.specs.Filling.{demands, AreUsed, AreTops, IsFinalShare, IsNamed}
 use Rattle.fair_share.proofs.Filling.{shares-long, place-of, slice_get-at, seam}
 use Rattle.fair_share.proofs.Naming.{none-named, rates-take, zip-take, all-rates, all-named, named-right}
 use Rattle.fair_share.proofs.Rates.{rates-long, rate-at}
@@ -44,10 +44,10 @@ loop-index-preserved c =
     let are : AreUsed (demands c.args.caps.now c.args.tenants.now) (share_rates c.as_slice-shares.result.now) c.deref.result.now =
     subst (λ ss. AreUsed (demands c.args.caps.now c.args.tenants.now) (share_rates ss) c.deref.result.now) (sym same) (subst (AreUsed (demands c.args.caps.now c.args.tenants.now) (share_rates c.in_ok-given.given.shares.items)) (sym used) c.in_ok-given.ensures.used) in
     let top : AreTops (demands c.args.caps.now c.args.tenants.now) (share_rates c.as_slice-shares.result.now) c.deref-in-loop-index.result.now = subst (AreTops (demands c.args.caps.now c.args.tenants.now) (share_rates c.as_slice-shares.result.now)) (sym whole) c.top_all.ensures in
-    let settled : IsSettled (demands c.args.caps.now c.args.tenants.now) (share_rates c.as_slice-shares.result.now) c.index-tenants-index.result (slice_index (share_rates c.as_slice-shares.result.now) c.loop-index.index) =
-    subst (λ ss. IsSettled (demands c.args.caps.now c.args.tenants.now) (share_rates ss) c.index-tenants-index.result (slice_index (share_rates ss) c.loop-index.index)) (sym same) (c.in_ok-given.ensures.settled c.loop-index.index c.index-tenants-index.result stands) in
+    let settled : IsFinalShare (demands c.args.caps.now c.args.tenants.now) (share_rates c.as_slice-shares.result.now) c.index-tenants-index.result (slice_index (share_rates c.as_slice-shares.result.now) c.loop-index.index) =
+    subst (λ ss. IsFinalShare (demands c.args.caps.now c.args.tenants.now) (share_rates ss) c.index-tenants-index.result (slice_index (share_rates ss) c.loop-index.index)) (sym same) (c.in_ok-given.ensures.settled c.loop-index.index c.index-tenants-index.result stands) in
     let line : IsNamed (demands c.args.caps.now c.args.tenants.now) (share_rates c.as_slice-shares.result.now) c.index-tenants-index.result c.line_of-line.result =
-    c.line_of-line.ensures.named c.args.tenants.now (share_rates c.as_slice-shares.result.now) are top (subst (IsSettled (demands c.args.caps.now c.args.tenants.now) (share_rates c.as_slice-shares.result.now) c.index-tenants-index.result) at settled) in
+    c.line_of-line.ensures.named c.args.tenants.now (share_rates c.as_slice-shares.result.now) are top (subst (IsFinalShare (demands c.args.caps.now c.args.tenants.now) (share_rates c.as_slice-shares.result.now) c.index-tenants-index.result) at settled) in
     let pushed : c.push.new.self.items ≡ c.loop-index.lines.items ++ c.line_of-line.result ∷ [] = c.in_ok-push.ensures.items in (
       ap share_rates pushed ∙ rates-take c.loop-index.lines.items (share_rates c.as_slice-shares.result.now) c.loop-index.index c.line_of-line.result c.loop-index.invariant.0 within (c.line_of-line.ensures.rate ∙ sym at),
       subst (AllZip (IsNamed (demands c.args.caps.now c.args.tenants.now) (share_rates c.as_slice-shares.result.now)) (take (c.loop-index.index + 1) c.args.tenants.now)) (sym pushed)

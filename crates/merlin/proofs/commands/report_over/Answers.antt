@@ -1,24 +1,32 @@
-use Rattle.std.proofs.Common.{◌≡◌, ◌∷◌, [], length, ◌∙◌, ap}
-use Rattle.std.proofs.lemmas.Result.{IfOk-weaker}
-use Rattle.merlin.specs.Reading.{texts_read}
-use Rattle.merlin.specs.Compile.{compile_form}
-use Rattle.merlin.specs.Refute.{refute_form}
+use Rattle.std.proofs.Common.{◌≡◌, ℕ, length, ◌∙◌, ap}
+use Rattle.merlin.specs.declared.commands.Command.{Command}
 use Rattle.merlin.specs.Commands.{form_of, files_of}
-use Rattle.merlin.proofs.Replies.{texts_of_two, IsReplyReport-compiled, IsReplyReport-refuted}
 use Rattle.merlin.proofs.commands.report_over.Goals as goal
 
+-- a command has as many files as were read
+many : {count : ℕ} {command known : Command} → count ≡ length (files_of (form_of command)) → command ≡ known → count ≡ length (files_of (form_of known))
+many read is = read ∙ ap (λ (x : Command). length (files_of (form_of x))) is
+
+pub compile_report-requires : goal.compile_report-requires
+compile_report-requires g c = many c.requires.read c.in-Compile.is
+
 pub returns-in-Compile : goal.returns-in-Compile
-returns-in-Compile g c =
-    let two : length c.args.contents.now ≡ 2 = c.requires.read ∙ ap (λ command. length (files_of (form_of command))) c.in-Compile.is in
-    let texts = texts_of_two c.args.contents.now c.index-contents-0.result c.index-contents-1.result two c.index-contents-0.is c.index-contents-1.is in
-    rw c.in-Compile.is (IfOk-weaker c.compile_report.result _ _
-    (λ report h. IsReplyReport-compiled _ (texts_read c.args.contents.now) c.deref.result.now c.deref-in-Compile.result.now (rw (c.deref.ensures.value, c.deref-in-Compile.ensures.value) texts) report (compile_form c.in-Compile.words) h)
-    c.compile_report.ensures)
+returns-in-Compile g c = rw c.in-Compile.is c.compile_report.ensures
+
+pub refute_report-requires : goal.refute_report-requires
+refute_report-requires g c = many c.requires.read c.in-Refute.is
+
+pub returns-in-Refute : goal.returns-in-Refute
+returns-in-Refute g c = rw c.in-Refute.is c.refute_report.ensures
+
+pub fair_report-requires : goal.fair_report-requires
+fair_report-requires g c = many c.requires.read c.in-Fair.is
+
+pub returns-in-Fair : goal.returns-in-Fair
+returns-in-Fair g c = rw c.in-Fair.is c.fair_report.ensures
+
+pub fairness_report-requires : goal.fairness_report-requires
+fairness_report-requires g c = many c.requires.read c.in-Fairness.is
 
 pub returns : goal.returns
-returns g c =
-    let two : length c.args.contents.now ≡ 2 = c.requires.read ∙ ap (λ command. length (files_of (form_of command))) c.in-Refute.is in
-    let texts = texts_of_two c.args.contents.now c.index-contents-0-in-Refute.result c.index-contents-1-in-Refute.result two c.index-contents-0-in-Refute.is c.index-contents-1-in-Refute.is in
-    rw c.in-Refute.is (IfOk-weaker c.refute_report.result _ _
-    (λ report h. IsReplyReport-refuted _ (texts_read c.args.contents.now) c.deref-in-Refute.result.now c.deref-in-Refute-2.result.now (rw (c.deref-in-Refute.ensures.value, c.deref-in-Refute-2.ensures.value) texts) report (refute_form c.in-Refute.field-0) h)
-    c.refute_report.ensures)
+returns g c = rw c.in-Fairness.is c.fairness_report.ensures

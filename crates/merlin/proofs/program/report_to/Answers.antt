@@ -1,10 +1,24 @@
-use Rattle.std.proofs.Common.{ap}
+use Rattle.std.proofs.Common.{length, sym, ◌∙◌, ap}
+use Rattle.std.proofs.lemmas.Result.{IfOk-weaker}
+use Rattle.merlin.specs.Words.{word_texts}
 use Rattle.merlin.specs.Reading.{texts_read}
-use Rattle.merlin.specs.Commands.{form_of}
-use Rattle.merlin.proofs.Replies.{IfOk-reported}
+use Rattle.merlin.specs.Commands.{form_of, files_of}
+use Rattle.merlin.proofs.Replies.{AreContents-length, texts_read-length, IsReportTo-unread, IfOk-reported}
 use Rattle.merlin.proofs.program.report_to.Goals as goal
+
+pub report_over-requires-clause-read : goal.report_over-requires-clause-read
+report_over-requires-clause-read g c =
+    ap length c.deref.ensures.value
+    ∙ (sym (texts_read-length c.in-Ok.contents.items)
+    ∙ AreContents-length _ (files_of (form_of c.in-Some.command)) (texts_read c.in-Ok.contents.items) c.in-Ok.ensures.ok)
 
 pub returns-in-Ok : goal.returns-in-Ok
 returns-in-Ok g c =
     IfOk-reported _ _ c.report_over.result (form_of c.in-Some.command) (texts_read c.in-Ok.contents.items) (texts_read c.deref.result.now) (ap texts_read c.deref.ensures.value)
     c.in-Some.ensures.some c.in-Ok.ensures.ok c.report_over.ensures
+
+pub returns-in-Err : goal.returns-in-Err
+returns-in-Err g c =
+    IfOk-weaker c.unread_report.result _ _
+    (λ report tells. IsReportTo-unread _ (word_texts c.args.words.now) report (form_of c.in-Some.command) c.in-Err.unread c.in-Some.ensures.some c.in-Err.ensures.err tells)
+    c.unread_report.ensures

@@ -1,0 +1,26 @@
+use Rattle.std.proofs.Common.{sym}
+use Rattle.merlin.proofs.commands.contents_for.Goals as goal
+
+pub returns-in-Compile-clause-ok : goal.returns-in-Compile-clause-ok
+returns-in-Compile-clause-ok g c = rw (c.in-Compile.is, sym c.files_to_compile.ensures) c.read_files.ensures.ok
+
+pub returns-in-Compile-clause-err : goal.returns-in-Compile-clause-err
+returns-in-Compile-clause-err g c = rw (c.in-Compile.is, sym c.files_to_compile.ensures) c.read_files.ensures.err
+
+pub returns-in-Refute-clause-ok : goal.returns-in-Refute-clause-ok
+returns-in-Refute-clause-ok g c = rw (c.in-Refute.is, sym c.files_to_refute.ensures) c.read_files-in-Refute.ensures.ok
+
+pub returns-in-Refute-clause-err : goal.returns-in-Refute-clause-err
+returns-in-Refute-clause-err g c = rw (c.in-Refute.is, sym c.files_to_refute.ensures) c.read_files-in-Refute.ensures.err
+
+pub returns-in-Fair-clause-ok : goal.returns-in-Fair-clause-ok
+returns-in-Fair-clause-ok g c = rw (c.in-Fair.is, sym c.files_to_divide.ensures) c.read_files-in-Fair.ensures.ok
+
+pub returns-in-Fair-clause-err : goal.returns-in-Fair-clause-err
+returns-in-Fair-clause-err g c = rw (c.in-Fair.is, sym c.files_to_divide.ensures) c.read_files-in-Fair.ensures.err
+
+pub returns-in-Fairness-clause-ok : goal.returns-in-Fairness-clause-ok
+returns-in-Fairness-clause-ok g c = rw (c.in-Fairness.is, sym c.files_to_judge.ensures) c.read_files-in-Fairness.ensures.ok
+
+pub returns-in-Fairness-clause-err : goal.returns-in-Fairness-clause-err
+returns-in-Fairness-clause-err g c = rw (c.in-Fairness.is, sym c.files_to_judge.ensures) c.read_files-in-Fairness.ensures.err

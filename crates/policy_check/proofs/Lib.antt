@@ -1,3 +1,2 @@
-pub mod Shapes
-pub mod Tabled
-pub mod Ordered
+pub mod Overlapping
+pub mod Rated

@@ -1,2 +1,4 @@
-pub mod Names
-pub mod Meanings
+pub mod Conversions
+pub mod Numbered
+pub mod Rules
+pub mod Parts

@@ -1,2 +1,3 @@
 pub mod Overlapping
 pub mod Rated
+pub mod Forms

@@ -2,3 +2,4 @@ pub mod Conversions
 pub mod Numbered
 pub mod Rules
 pub mod Parts
+pub mod Sharing

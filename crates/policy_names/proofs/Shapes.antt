@@ -19,7 +19,7 @@ unfolding hidden-the_row-RawPath-0 hidden-the_row-RawPath-1 hidden
 names_of-Alt negated [] = refl
 names_of-Alt negated (part ∷ rest) = ap (λ l. names_of negated part ++ l) (names_of-Alt negated rest)
 
-filter-append : {X : Type 0} (test : X → Bool) (xs ys : List X) → filter test (xs ++ ys) ≡ filter test xs ++ filter test ys
+pub filter-append : {X : Type 0} (test : X → Bool) (xs ys : List X) → filter test (xs ++ ys) ≡ filter test xs ++ filter test ys
 filter-append test [] ys = refl
 filter-append {X} test (x ∷ xs) ys = by (test x) (filter-append test xs ys)
   where

@@ -3,6 +3,7 @@
 
 mod fault;
 mod faulty;
+pub mod laws;
 mod names;
 mod numbering;
 mod resolving;

@@ -1,3 +1,6 @@
 pub mod Overlapping
 pub mod Rated
 pub mod Forms
+pub mod Assembled
+pub mod Sound
+pub mod Keeping

@@ -12,7 +12,7 @@ use Rattle.policy_expansion.specs.declared.policy.Statement.{Statement}
 use Rattle.policy_expansion.specs.declared.policy.Policy.{Policy}
 use Rattle.policy_check.specs.Rules.{listed_ids, listed_preds, HasApartPreds, IsOverlapOf}
 
-ids-many : (raw : Policy) → length (listed_preds raw) ≡ length (listed_ids raw)
+pub ids-many : (raw : Policy) → length (listed_preds raw) ≡ length (listed_ids raw)
 ids-many raw = length-map raw.statements (λ (s : Statement). s.pred) ∙ sym (length-map raw.statements (λ (s : Statement). s.id))
 
 module _ (raw : Policy) (ids : List (List ℕ)) (preds : List Pred) (ids-are : ids ≡ listed_ids raw) (preds-are : preds ≡ listed_preds raw) where

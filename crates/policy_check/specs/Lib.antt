@@ -3,3 +3,5 @@ pub mod Numbered
 pub mod Rules
 pub mod Parts
 pub mod Sharing
+pub mod Checked
+pub mod Kept

@@ -6,9 +6,11 @@ use Rattle.predicate_split.specs.declared.fault.TheConstants.{MAX_CLASSES}
 use Rattle.predicate_split.specs.declared.fault.SplitFault.TheVariants as split
 use Rattle.predicate_split.specs.Refusals.{classes_in, RefusesClasses}
 use Rattle.policy_expansion.specs.declared.policy.Policy.{Policy}
+use Rattle.localise.specs.Localised.{localised}
+use Rattle.policy_check.specs.declared.checking.Judged.{Judged}
 use Rattle.policy_check.specs.declared.fault.CheckFault.{CheckFault}
 use Rattle.policy_check.specs.declared.fault.CheckFault.TheVariants.{TooManyClasses, Overlap, NotTotal, Rate, OutOfMemory}
-use Rattle.policy_check.specs.Rules.{listed_preds, HasApartPreds, LeavesNothing, rate_faults, IsOverlapOf, IsLeftOut}
+use Rattle.policy_check.specs.Rules.{listed_ids, listed_preds, HasApartPreds, LeavesNothing, rate_faults, IsOverlapOf, IsLeftOut}
 
 -- the refusal of two statements by their places
 abbrev pub overlap_at : List (List ℕ) → ℕ → ℕ → Packet → CheckFault
@@ -32,3 +34,12 @@ BreaksPredicatesOrRates raw (NotTotal packet) = HasApartPreds raw × IsLeftOut r
 BreaksPredicatesOrRates raw (Rate fault) = HasApartPreds raw × LeavesNothing raw × (slice_get (rate_faults raw) 0 ≡ Some fault)
 BreaksPredicatesOrRates raw OutOfMemory = ⊤
 BreaksPredicatesOrRates raw _ = ⊥
+
+-- the lists of a policy whose predicates and formula are as they must be, with its rates
+pub record IsJudged (raw : Policy) (judged : Judged) : Type 0 where
+  pub ids : judged.listing.ids ≡ listed_ids raw
+  pub preds : judged.listing.preds ≡ listed_preds raw
+  pub rates : judged.rates ≡ localised raw.formula.terms (listed_ids raw)
+  pub apart : HasApartPreds raw
+  pub total : LeavesNothing raw
+  pub clear : rate_faults raw ≡ []

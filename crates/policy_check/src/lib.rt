@@ -2,8 +2,12 @@
 #![tactic(auto)]
 
 mod automata;
+mod checked;
+mod checking;
 mod fault;
 mod listing;
 mod rules;
 
+pub use checked::Checked;
+pub use checking::check;
 pub use fault::CheckFault;

@@ -12,7 +12,7 @@ use Rattle.packet_model.specs.Fields.{has_ports}
 use Rattle.predicate_logic.specs.Residues.{residues}
 use Rattle.predicate_logic.specs.Mentions.{mentions, ascending}
 use Rattle.predicate_logic.proofs.Placing.{ascending-pairwise}
-use Rattle.predicate_split.specs.declared.cells.Cell.{Cell}
+use Rattle.predicate_split.specs.declared.pair_cells.Cell.{Cell}
 use Rattle.predicate_split.specs.Parts.{least_from}
 use Rattle.predicate_split.specs.Cells.{allows, cell_matches, owner_from, between_hosts, packet_between, protos, ports_under, value_of, packet_of_cell, choices, cell_of, cells_under, all_cells, cells_between}
 use Rattle.predicate_split.proofs.PartLaws.{decide_in}
@@ -55,7 +55,7 @@ found_in {X} t (x ∷ xs) c e = by (t x) e (found_in t xs c)
 
 -- Stars and values.
 
-star-is : (limit : ℕ) (ns : List ℕ) (a : Option ℕ) → In a (choices false limit ns) → a ≡ None
+pub star-is : (limit : ℕ) (ns : List ℕ) (a : Option ℕ) → In a (choices false limit ns) → a ≡ None
 star-is limit ns a i = by (nat_lt (least_from 0 ns) limit) i
   where
     by : (b : Bool) → In a (cond b (None ∷ []) []) → a ≡ None

@@ -16,3 +16,6 @@ pub mod Shared
 pub mod Represented
 pub mod Owners
 pub mod FirstCells
+pub mod Lefts
+pub mod CellCounts
+pub mod CellLists

@@ -17,6 +17,7 @@ use Rattle.predicate_logic.proofs.Meanings.{residue-holds}
 use Rattle.predicate_logic.proofs.Untested.{tests-decide}
 use Rattle.predicate_logic.proofs.Placing.{in-ascending}
 use Rattle.predicate_split.specs.Walks.{AreFresh}
+use Rattle.predicate_split.specs.Left.{left_between}
 use Rattle.predicate_split.specs.Cells.{owner_from, between_hosts}
 use Rattle.predicate_split.proofs.Splitting.{residues-fresh}
 use Rattle.predicate_split.proofs.Starting.{preds-start}
@@ -36,10 +37,8 @@ goes p src dst between = record {
   ip_dst = ap (λ (a : HostAddress). a.ip) between.2;
 }
 
-abbrev one_between : HostAddress → HostAddress → Pred → Pred
-one_between src dst pred = residue IpDst dst.ip (residue IpSrc src.ip (residue EthDst dst.eth (residue EthSrc src.eth pred)))
-
-between-holds : (src dst : HostAddress) (p : Packet) → GoesBetween src dst p → (pred : Pred) → holds (one_between src dst pred) p ≡ holds pred p
+pub between-holds : (src dst : HostAddress) (p : Packet) → GoesBetween src dst p → (pred : Pred) → holds (left_between src dst pred) p ≡ holds pred p
+unfolding left_between
 between-holds src dst p at pred =
     residue-holds IpDst dst.ip p at.ip_dst (residue IpSrc src.ip (residue EthDst dst.eth (residue EthSrc src.eth pred)))
     ∙ residue-holds IpSrc src.ip p at.ip_src (residue EthDst dst.eth (residue EthSrc src.eth pred))
@@ -53,33 +52,35 @@ owner-alike n (pred ∷ rest) p q h = ap₂ (λ b o. cond b (Some n) o) h.0 (own
 -- packets between the hosts that pass the same tests of what is left are judged alike
 pub alike-between : (src dst : HostAddress) (p q : Packet) → GoesBetween src dst p → GoesBetween src dst q → (preds : List Pred) →
     ((t : Test) → In t (flat_map tests_of (between_hosts src dst preds)) → passes t p ≡ passes t q) → AllByRecursion (λ pred. holds pred p ≡ holds pred q) preds
+unfolding left_between
 alike-between src dst p q at to [] same = tt
 alike-between src dst p q at to (pred ∷ rest) same = (
-  sym (between-holds src dst p at pred) ∙ tests-decide p q (one_between src dst pred) (λ t i. same t (in_append-left (tests_of (one_between src dst pred)) (flat_map tests_of (between_hosts src dst rest)) t i)) ∙ between-holds src dst q to pred,
-  alike-between src dst p q at to rest (λ t i. same t (in_append-right (tests_of (one_between src dst pred)) (flat_map tests_of (between_hosts src dst rest)) t i)),
+  sym (between-holds src dst p at pred) ∙ tests-decide p q (left_between src dst pred) (λ t i. same t (in_append-left (tests_of (left_between src dst pred)) (flat_map tests_of (between_hosts src dst rest)) t i)) ∙ between-holds src dst q to pred,
+  alike-between src dst p q at to rest (λ t i. same t (in_append-right (tests_of (left_between src dst pred)) (flat_map tests_of (between_hosts src dst rest)) t i)),
 )
 
 pub alike-under : (src dst : HostAddress) (p q : Packet) (proto : ℕ) → p.proto ≡ proto → q.proto ≡ proto → GoesBetween src dst p → GoesBetween src dst q → (preds : List Pred) →
     ((t : Test) → In t (flat_map tests_of (residues Proto proto (between_hosts src dst preds))) → passes t p ≡ passes t q) → AllByRecursion (λ pred. holds pred p ≡ holds pred q) preds
+unfolding left_between
 alike-under src dst p q proto pp qp at to [] same = tt
 alike-under src dst p q proto pp qp at to (pred ∷ rest) same =
-    let last = residue Proto proto (one_between src dst pred) in (
-      sym (residue-holds Proto proto p pp (one_between src dst pred) ∙ between-holds src dst p at pred)
+    let last = residue Proto proto (left_between src dst pred) in (
+      sym (residue-holds Proto proto p pp (left_between src dst pred) ∙ between-holds src dst p at pred)
           ∙ tests-decide p q last (λ t i. same t (in_append-left (tests_of last) (flat_map tests_of (residues Proto proto (between_hosts src dst rest))) t i))
-          ∙ residue-holds Proto proto q qp (one_between src dst pred) ∙ between-holds src dst q to pred,
+          ∙ residue-holds Proto proto q qp (left_between src dst pred) ∙ between-holds src dst q to pred,
       alike-under src dst p q proto pp qp at to rest (λ t i. same t (in_append-right (tests_of last) (flat_map tests_of (residues Proto proto (between_hosts src dst rest))) t i)),
     )
 
 -- What tests are left.
 
-left-fresh : (src dst : HostAddress) (preds : List Pred) → AllByRecursion IsPred preds → AreFresh (Proto ∷ Sport ∷ Dport ∷ []) 0 (between_hosts src dst preds)
+pub left-fresh : (src dst : HostAddress) (preds : List Pred) → AllByRecursion IsPred preds → AreFresh (Proto ∷ Sport ∷ Dport ∷ []) 0 (between_hosts src dst preds)
 left-fresh src dst preds h =
     residues-fresh IpDst (Proto ∷ Sport ∷ Dport ∷ []) (3, omega arith, refl) 0 dst.ip (residues IpSrc src.ip (residues EthDst dst.eth (residues EthSrc src.eth preds)))
     (residues-fresh IpSrc (IpDst ∷ Proto ∷ Sport ∷ Dport ∷ []) (2, omega arith, refl) 0 src.ip (residues EthDst dst.eth (residues EthSrc src.eth preds))
     (residues-fresh EthDst (IpSrc ∷ IpDst ∷ Proto ∷ Sport ∷ Dport ∷ []) (1, omega arith, refl) 0 dst.eth (residues EthSrc src.eth preds)
     (residues-fresh EthSrc (EthDst ∷ IpSrc ∷ IpDst ∷ Proto ∷ Sport ∷ Dport ∷ []) (0, omega arith, refl) 0 src.eth preds (preds-start 0 preds h))))
 
-under-fresh : (src dst : HostAddress) (preds : List Pred) → AllByRecursion IsPred preds → (proto : ℕ) → AreFresh (Sport ∷ Dport ∷ []) proto (residues Proto proto (between_hosts src dst preds))
+pub under-fresh : (src dst : HostAddress) (preds : List Pred) → AllByRecursion IsPred preds → (proto : ℕ) → AreFresh (Sport ∷ Dport ∷ []) proto (residues Proto proto (between_hosts src dst preds))
 under-fresh src dst preds h proto = residues-fresh Proto (Sport ∷ Dport ∷ []) (4, omega arith, refl) 0 proto (between_hosts src dst preds) (left-fresh src dst preds h)
 
 named_in : (f : Field) (n : ℕ) (t : Test) (preds : List Pred) → In t (flat_map tests_of preds) → In n (test_mentions f t) → In n (ascending (flat_map (mentions f) preds))
@@ -104,7 +105,7 @@ not_among f (inr (inl e)) = inr e
 not_among f (inr (inr h)) = absurd h
 
 -- no block of addresses is left
-no_block : (f : Field) → IsAddress f → In f (Proto ∷ Sport ∷ Dport ∷ []) → ⊥
+pub no_block : (f : Field) → IsAddress f → In f (Proto ∷ Sport ∷ Dport ∷ []) → ⊥
 no_block f (inl a) (inl e) = let k : IpSrc ≡ Proto = sym a ∙ e in cc
 no_block f (inl a) (inr (inl e)) = let k : IpSrc ≡ Sport = sym a ∙ e in cc
 no_block f (inl a) (inr (inr (inl e))) = let k : IpSrc ≡ Dport = sym a ∙ e in cc

@@ -82,7 +82,7 @@ untested-alike proto p q (e ∷ rest) fresh = (
 
 -- What is trimmed is not among the first two.
 
-no-holds : (pred : Pred) (p : Packet) → is_no pred ≡ true → holds pred p ≡ false
+pub no-holds : (pred : Pred) (p : Packet) → is_no pred ≡ true → holds pred p ≡ false
 no-holds No p e = refl
 no-holds Yes p e = cc
 no-holds (Tests t) p e = cc

@@ -10,7 +10,7 @@ use Rattle.merlin_model.specs.Predicates.{holds}
 use Rattle.packet_model.specs.Fields.{has_ports}
 use Rattle.predicate_logic.specs.Residues.{residues}
 use Rattle.predicate_logic.specs.Mentions.{mentions, ascending}
-use Rattle.predicate_split.specs.declared.cells.Cell.{Cell}
+use Rattle.predicate_split.specs.declared.pair_cells.Cell.{Cell}
 use Rattle.predicate_split.specs.declared.fault.SplitFault.{SplitFault}
 use Rattle.predicate_split.specs.declared.fault.SplitFault.TheVariants.{TooManyClasses, TooManyCells, OutOfMemory}
 use Rattle.predicate_split.specs.declared.fault.TheConstants.{MAX_CELLS}

@@ -4,4 +4,6 @@ pub mod Least
 pub mod Walks
 pub mod Refusals
 pub mod Overlaps
+pub mod Left
 pub mod Cells
+pub mod Grids

@@ -27,7 +27,7 @@ pub struct PlacedPred {
 }
 
 /// The place of the first predicate that holds of the packet.
-fn holder(entries: &[PlacedPred], packet: &Packet) -> Option<usize>
+pub(crate) fn holder(entries: &[PlacedPred], packet: &Packet) -> Option<usize>
     ensures { result ≡ holder_of entries.now packet.now }
 {
     for entry in entries {

@@ -37,7 +37,7 @@ pub(crate) fn has_field(field: Field, proto: u64) -> bool
 }
 
 /// The least number, from this one on, that is not among ascending ones.
-fn least_from(low: u64, named: &[u64]) -> u64
+pub(crate) fn least_from(low: u64, named: &[u64]) -> u64
     requires { low ≤ 2 ^ 48 }
     ensures { result ≡ least_of low named.now }
 {

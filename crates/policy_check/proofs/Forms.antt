@@ -22,7 +22,7 @@ use Rattle.path_automaton.specs.declared.fault.AutomatonFault.{AutomatonFault}
 use Rattle.path_automaton.specs.declared.fault.AutomatonFault.TheVariants.{TooManyStates, OutOfMemory}
 use Rattle.policy_check.specs.Rules.{HasFewStates}
 use Rattle.policy_check.specs.declared.automata.Automata.{Automata}
-use Rattle.policy_check.specs.Sharing.{IsTableOf, AreShared, IsNumberFor, IsFaultAt, IsLargeAmong}
+use Rattle.policy_check.specs.Sharing.{IsTableOf, ShareAutomata, IsNumberFor, IsFaultOfPath, IsLargeAmong}
 use Rattle.policy_check.specs.declared.fault.CheckFault.{CheckFault}
 use Rattle.policy_check.specs.declared.fault.CheckFault.TheVariants as fault
 
@@ -45,12 +45,15 @@ module _ (symbols : List Symbol) (a b : Path) (same : normal_of a ≡ normal_of 
 
   pub built-same : (r : Result AutomatonTables AutomatonFault) → IsBuilt a symbols r → IsBuilt b symbols r
   built-same (Ok t) h = (h.0, tables-same t h.0 h.1, h.2)
-  built-same (Err (TooManyStates count)) h = (h.0, record {
-    forms = h.1.forms;
-    reached = subst (λ n. AllByRecursion (λ form. (w : List Symbol) × IsMadeOf symbols w × (form ≡ rest_after n w)) h.1.forms) same h.1.reached;
-    different = h.1.different;
-    many = h.1.many;
-  })
+  built-same (Err (TooManyStates count)) h = (
+    h.0,
+    record {
+      forms = h.1.forms;
+      reached = subst (λ n. AllByRecursion (λ form. (w : List Symbol) × IsMadeOf symbols w × (form ≡ rest_after n w)) h.1.forms) same h.1.reached;
+      different = h.1.different;
+      many = h.1.many;
+    },
+  )
   built-same (Err OutOfMemory) h = tt
 
 -- the automaton of the normal form is one of the path
@@ -59,9 +62,9 @@ pub table-same : (symbols : List Symbol) (path form : Path) (table : AutomatonTa
 table-same symbols path form table is own under words h = (
   built-same symbols form path (own ∙ is) (Ok table) h.0,
   λ free ks w spelled.
-    let there = h.1 (under free) ks w spelled in
-    let same = words free w in
-    ((λ e. same.0 (there.0 e)), (λ l. there.1 (same.1 l))),
+      let there = h.1 (under free) ks w spelled in
+      let same = words free w in
+      ((λ e. same.0 (there.0 e)), (λ l. there.1 (same.1 l))),
 )
 
 -- a form that is found is the form that is looked for
@@ -117,19 +120,19 @@ get-last (z ∷ xs) x = get-last xs x
 
 -- One path more: its form is there, or it is new.
 
-module _ (symbols : List Symbol) (paths : List Path) (path form : Path) (is : form ≡ normal_of path) (old : Automata) (shared : AreShared symbols paths old) where
-  pub known-form : (n : ℕ) → slice_get old.forms n ≡ Some form → AreShared symbols (paths ++ path ∷ []) (record { forms = old.forms; built = old.built; numbers = old.numbers ++ n ∷ [] })
+module _ (symbols : List Symbol) (paths : List Path) (path form : Path) (is : form ≡ normal_of path) (old : Automata) (shared : ShareAutomata symbols paths old) where
+  pub known-form : (n : ℕ) → slice_get old.forms n ≡ Some form → ShareAutomata symbols (paths ++ path ∷ []) (record { forms = old.forms; built = old.built; numbers = old.numbers ++ n ∷ [] })
   known-form n at = record {
     tables = shared.tables;
     numbers = zip-push (λ p k. slice_get old.forms k ≡ Some (normal_of p)) paths old.numbers path n shared.numbers (at ∙ ap (λ (p : Path). Some p) is);
   }
 
-  pub new-form : (table : AutomatonTables) → IsTableOf symbols form table → AreShared symbols (paths ++ path ∷ []) (record { forms = old.forms ++ form ∷ []; built = old.built ++ table ∷ []; numbers = old.numbers ++ length old.forms ∷ [] })
+  pub new-form : (table : AutomatonTables) → IsTableOf symbols form table → ShareAutomata symbols (paths ++ path ∷ []) (record { forms = old.forms ++ form ∷ []; built = old.built ++ table ∷ []; numbers = old.numbers ++ length old.forms ∷ [] })
   new-form table h = record {
     tables = zip-push (IsTableOf symbols) old.forms old.built form table shared.tables h;
     numbers = zip-push (λ p k. slice_get (old.forms ++ form ∷ []) k ≡ Some (normal_of p)) paths old.numbers path (length old.forms)
-    (zip-weaker (λ p k. slice_get old.forms k ≡ Some (normal_of p)) (λ p k. slice_get (old.forms ++ form ∷ []) k ≡ Some (normal_of p)) paths old.numbers (λ p k e. get-more old.forms form (normal_of p) k e) shared.numbers)
-    (get-last old.forms form ∙ ap (λ (p : Path). Some p) is);
+        (zip-weaker (λ p k. slice_get old.forms k ≡ Some (normal_of p)) (λ p k. slice_get (old.forms ++ form ∷ []) k ≡ Some (normal_of p)) paths old.numbers (λ p k e. get-more old.forms form (normal_of p) k e) shared.numbers)
+        (get-last old.forms form ∙ ap (λ (p : Path). Some p) is);
   }
 
 -- each path has its states within the limit
@@ -143,26 +146,30 @@ shared-few symbols (p ∷ paths) forms built (n ∷ numbers) tables own z =
     let table = built-same symbols (normal_of p) p (own p) (Ok beside.0) beside.2.0 in
     (record { forms = table.0; states = table.1.states; few = table.2 }, shared-few symbols paths forms built numbers tables own z.1)
 
-pub paths-few : (symbols : List Symbol) (paths : List Path) (automata : Automata) → AreShared symbols paths automata → AllByRecursion (HasFewStates symbols) paths
+pub paths-few : (symbols : List Symbol) (paths : List Path) (automata : Automata) → ShareAutomata symbols paths automata → AllByRecursion (HasFewStates symbols) paths
 paths-few symbols paths automata shared = shared-few symbols paths automata.forms automata.built automata.numbers shared.tables normal_form shared.numbers
 
 -- what is answered where a form is added
 pub added-form : (symbols : List Symbol) (form : Path) (old new : Automata) (r : Result ℕ AutomatonFault) → IfOk r (λ n. n ≡ length old.forms) → OnOk r (new.forms ≡ old.forms ++ form ∷ []) → OnOk r (new.numbers ≡ old.numbers) →
     OnOk r ((table : AutomatonTables) × IsTableOf symbols form table × (new.built ≡ old.built ++ table ∷ [])) → IfOk r (IsNumberFor symbols form old new)
 added-form symbols form old new (Ok n) number forms numbers built = λ paths path is shared.
-    subst (AreShared symbols (paths ++ path ∷ [])) (λ k. record { forms = sym forms k; built = sym built.2 k; numbers = sym numbers k ++ sym number k ∷ [] }) (new-form symbols paths path form is old shared built.0 built.1)
+    subst (ShareAutomata symbols (paths ++ path ∷ [])) (λ k. record { forms = sym forms k; built = sym built.2 k; numbers = sym numbers k ++ sym number k ∷ [] }) (new-form symbols paths path form is old shared built.0 built.1)
 added-form symbols form old new (Err fault) number forms numbers built = tt
 
 -- The path at this place is the first that has too many states.
 pub large-at : (ids : List (List ℕ)) (symbols : List Symbol) (paths : List Path) (place : ℕ) (path : Path) (automata : Automata) (fault : AutomatonFault) (result : CheckFault) → place < length paths → path ≡ get_or paths place path →
-    AreShared symbols (take place paths) automata → IsBuilt path symbols (Err fault) → IsFaultAt ids place fault result → IsLargeAmong ids symbols paths result
-large-at ids symbols paths place path automata (TooManyStates many) (fault.TooManyStates id count) within is shared h at = (place, at.0, record {
-  path = path;
-  has = slice_get_read paths (length paths) place path refl within is;
-  before = paths-few symbols (take place paths) automata shared;
-  count_is = at.1 ∙ h.0;
-  many = subst (HasStates path symbols) (sym at.1) h.1;
-})
+    ShareAutomata symbols (take place paths) automata → IsBuilt path symbols (Err fault) → IsFaultOfPath ids place fault result → IsLargeAmong ids symbols paths result
+large-at ids symbols paths place path automata (TooManyStates many) (fault.TooManyStates id count) within is shared h at = (
+  place,
+  at.0,
+  record {
+    path = path;
+    has = slice_get_read paths (length paths) place path refl within is;
+    before = paths-few symbols (take place paths) automata shared;
+    count_is = at.1 ∙ h.0;
+    many = subst (HasStates path symbols) (sym at.1) h.1;
+  },
+)
 large-at ids symbols paths place path automata OutOfMemory (fault.TooManyStates id count) within is shared h at = absurd at
 large-at ids symbols paths place path automata f fault.OutOfMemory within is shared h at = tt
 large-at ids symbols paths place path automata (TooManyStates many) (fault.UnknownName name) within is shared h at = absurd at

@@ -30,9 +30,9 @@ use Rattle.policy_check.specs.declared.checked.Checked.TheInside.{Inside}
 use Rattle.policy_check.specs.Numbered.{numbered_policy}
 use Rattle.policy_check.specs.Rules.{listed_ids, HasMeanings, HasFewStates, numbered_paths_of}
 use Rattle.policy_check.specs.Parts.{IsJudged}
-use Rattle.policy_check.specs.Sharing.{IsTableOf, AreShared}
-use Rattle.policy_check.specs.Checked.{IsSoundPolicy, IsAutomatonOfPath, IsCheckOf, automaton_of}
-use Rattle.policy_check.specs.Kept.{policy_in, checked_in, IsKept}
+use Rattle.policy_check.specs.Sharing.{IsTableOf, ShareAutomata}
+use Rattle.policy_check.specs.Checked.{IsSoundPolicy, IsAutomatonOfPath, IsCheckOf, automaton_of_statement}
+use Rattle.policy_check.specs.Kept.{policy_in, checked_in, IsWholeCheck}
 use Rattle.policy_check.proofs.Overlapping.{ids-many}
 use Rattle.policy_check.proofs.Forms.{table-same, zip-at, zip-long, paths-few}
 use Rattle.policy_check.proofs.Assembled.{policy-is, paths-parts, paths-back, ids-back, preds-back}
@@ -59,7 +59,7 @@ behind (y ∷ front) d = by (behind front d)
     by (inr e) = inr (ap suc e)
 
 module _ (net : Network) (symbols : List Symbol) (raw : NamedPolicy) (expanded : IsExpanded raw) (formed : IsWellFormed raw) (named : HasMeanings net raw)
-    (judged : Judged) (is : IsJudged raw judged) (paths : List Path) (paths-are : paths ≡ numbered_paths_of net raw) (automata : Automata) (shared : AreShared symbols paths automata)
+    (judged : Judged) (is : IsJudged raw judged) (paths : List Path) (paths-are : paths ≡ numbered_paths_of net raw) (automata : Automata) (shared : ShareAutomata symbols paths automata)
     (formula : Formula) (formula-is : formula ≡ raw.formula) (room : (policy : Policy) → faults policy.terms (ids_in policy) ≡ [] → HasRoomForGuarantees policy) where
   abbrev inside : Inside
   inside = record { listing = record { ids = judged.listing.ids; preds = judged.listing.preds }; paths = paths; formula = formula; rates = judged.rates; automata = automata }
@@ -92,7 +92,7 @@ module _ (net : Network) (symbols : List Symbol) (raw : NamedPolicy) (expanded :
       by (inl e) = inl (same ∙ (e ∙ many))
       by (inr e) = inr (same ∙ (e ∙ ap suc many))
 
-  pub kept : IsKept inside
+  pub kept : IsWholeCheck inside
   kept = record {
     preds = preds-many;
     paths = paths-long;
@@ -103,16 +103,19 @@ module _ (net : Network) (symbols : List Symbol) (raw : NamedPolicy) (expanded :
   }
 
   automaton-at : AllByRecursion HasNoFunctionUnderNot (numbered_paths_of net raw) → (i : ℕ) (path : Path) → slice_get (paths_of (policy_in inside)) i ≡ Some path →
-      (table : AutomatonTables) × (automaton_of (checked_in inside) i ≡ Some table) × IsAutomatonOfPath symbols path table
+      (table : AutomatonTables) × (automaton_of_statement (checked_in inside) i ≡ Some table) × IsAutomatonOfPath symbols path table
   automaton-at free i path at =
       let there : slice_get paths i ≡ Some path = ap (λ l. slice_get l i) (sym (paths-back judged.listing.ids judged.listing.preds paths preds-many paths-long)) ∙ at in
       let number = zip-at (λ p n. slice_get automata.forms n ≡ Some (normal_of p)) paths automata.numbers i path shared.numbers there in
       let table = zip-at (IsTableOf symbols) automata.forms automata.built number.0 (normal_of path) shared.tables number.2 in
-      let own = table-same symbols path (normal_of path) table.0 refl (normal_form path) (normal-under path) (normal-takes path) table.2 in
-      (table.0, ap (option_and_then (slice_get automata.built)) number.1 ∙ table.1, record {
-        built = own.0;
-        words = own.1 (all-at HasNoFunctionUnderNot paths i path (subst (AllByRecursion HasNoFunctionUnderNot) (sym paths-are) free) there);
-      })
+      let own = table-same symbols path (normal_of path) table.0 refl (normal_form path) (normal-under path) (normal-takes path) table.2 in (
+        table.0,
+        ap (option_and_then (slice_get automata.built)) number.1 ∙ table.1,
+        record {
+          built = own.0;
+          words = own.1 (all-at HasNoFunctionUnderNot paths i path (subst (AllByRecursion HasNoFunctionUnderNot) (sym paths-are) free) there);
+        },
+      )
 
   pub check-of : AllByRecursion HasNoFunctionUnderNot (numbered_paths_of net raw) → IsCheckOf net symbols raw (checked_in inside)
   check-of free = record {
@@ -125,7 +128,7 @@ module _ (net : Network) (symbols : List Symbol) (raw : NamedPolicy) (expanded :
   }
 
 -- The lists of a checked policy.
-module _ (c : Inside) (k : IsKept c) where
+module _ (c : Inside) (k : IsWholeCheck c) where
   pub paths-view : paths_of (policy_in c) ≡ c.paths
   paths-view = paths-back c.listing.ids c.listing.preds c.paths k.preds k.paths
 

@@ -23,8 +23,8 @@ pub record CheckedPolicy : Type 0 where
   pub automaton_numbers : List ℕ
 
 -- the automaton of the path at a place
-abbrev pub automaton_of : CheckedPolicy → ℕ → Option AutomatonTables
-automaton_of checked i = option_and_then (slice_get checked.automata) (slice_get checked.automaton_numbers i)
+abbrev pub automaton_of_statement : CheckedPolicy → ℕ → Option AutomatonTables
+automaton_of_statement checked i = option_and_then (slice_get checked.automata) (slice_get checked.automaton_numbers i)
 
 -- the constants of a `max` term are within its rate
 abbrev pub HasRoomForConstants : Term → Type 0
@@ -54,4 +54,4 @@ pub record IsCheckOf (net : Network) (symbols : List Symbol) (raw : NamedPolicy)
   pub rules : KeepsAllRules net symbols raw
   pub policy : checked.policy ≡ numbered_policy net raw
   pub automata : (i : ℕ) (path : Path) → slice_get (paths_of checked.policy) i ≡ Some path →
-      (table : AutomatonTables) × (automaton_of checked i ≡ Some table) × IsAutomatonOfPath symbols path table
+      (table : AutomatonTables) × (automaton_of_statement checked i ≡ Some table) × IsAutomatonOfPath symbols path table

@@ -9,13 +9,13 @@ use Rattle.policy_check.specs.declared.checked.Checked.TheInside.{Inside}
 use Rattle.policy_check.specs.Checked.{CheckedPolicy, IsSoundPolicy}
 
 -- statements from their parts
-abbrev pub statements_of : List (List ℕ) → List Pred → List Path → List Statement
-statements_of (id ∷ ids) (pred ∷ preds) (path ∷ paths) = record { id = id; pred = pred; path = path } ∷ statements_of ids preds paths
-statements_of _ _ _ = []
+abbrev pub statements_from : List (List ℕ) → List Pred → List Path → List Statement
+statements_from (id ∷ ids) (pred ∷ preds) (path ∷ paths) = record { id = id; pred = pred; path = path } ∷ statements_from ids preds paths
+statements_from _ _ _ = []
 
 abbrev pub policy_in : Inside → Policy
 policy_in c = record {
-  statements = statements_of c.listing.ids c.listing.preds c.paths;
+  statements = statements_from c.listing.ids c.listing.preds c.paths;
   default_path = slice_get c.paths (length c.listing.ids);
   terms = c.formula.terms;
 }
@@ -24,7 +24,7 @@ abbrev pub checked_in : Inside → CheckedPolicy
 checked_in c = record { policy = policy_in c; automata = c.automata.built; automaton_numbers = c.automata.numbers }
 
 -- There are as many ids as predicates, as many paths or one more, and for each path the number of an automaton.
-pub record IsKept (c : Inside) : Type 0 where
+pub record IsWholeCheck (c : Inside) : Type 0 where
   pub preds : length c.listing.preds ≡ length c.listing.ids
   pub paths : (length c.paths ≡ length c.listing.ids) ⊎ (length c.paths ≡ suc (length c.listing.ids))
   pub numbers : length c.automata.numbers ≡ length c.paths

@@ -19,7 +19,7 @@ abbrev pub IsTableOf : List Symbol → Path → AutomatonTables → Type 0
 IsTableOf symbols path table = IsBuilt path symbols (Ok table) × (HasNoFunctionUnderNot path → AcceptsWordsOf symbols path table)
 
 -- each normal form has its automaton, and each path the number of its normal form
-pub record AreShared (symbols : List Symbol) (paths : List Path) (automata : Automata) : Type 0 where
+pub record ShareAutomata (symbols : List Symbol) (paths : List Path) (automata : Automata) : Type 0 where
   pub tables : AllZip (IsTableOf symbols) automata.forms automata.built
   pub numbers : AllZip (λ path n. slice_get automata.forms n ≡ Some (normal_of path)) paths automata.numbers
 
@@ -30,13 +30,13 @@ with_number automata n = record { forms = automata.forms; built = automata.built
 -- each path of this normal form may be added under the number
 abbrev pub IsNumberFor : List Symbol → Path → Automata → Automata → ℕ → Type 0
 IsNumberFor symbols form old new n =
-    (paths : List Path) (path : Path) → form ≡ normal_of path → AreShared symbols paths old → AreShared symbols (paths ++ path ∷ []) (with_number new n)
+    (paths : List Path) (path : Path) → form ≡ normal_of path → ShareAutomata symbols paths old → ShareAutomata symbols (paths ++ path ∷ []) (with_number new n)
 
 -- what the fault of the path at a place is for a policy
-abbrev pub IsFaultAt : List (List ℕ) → ℕ → AutomatonFault → CheckFault → Type 0
-IsFaultAt ids place fault OutOfMemory = ⊤
-IsFaultAt ids place (automaton.TooManyStates many) (TooManyStates id count) = (id ≡ slice_get ids place) × (count ≡ many)
-IsFaultAt ids place fault other = ⊥
+abbrev pub IsFaultOfPath : List (List ℕ) → ℕ → AutomatonFault → CheckFault → Type 0
+IsFaultOfPath ids place fault OutOfMemory = ⊤
+IsFaultOfPath ids place (automaton.TooManyStates many) (TooManyStates id count) = (id ≡ slice_get ids place) × (count ≡ many)
+IsFaultOfPath ids place fault other = ⊥
 
 -- A path is the first with more states than there may be. It stands in the statement of this id, or in the default behind all statements.
 abbrev pub IsLargeAmong : List (List ℕ) → List Symbol → List Path → CheckFault → Type 0

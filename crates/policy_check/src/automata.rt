@@ -6,7 +6,7 @@ ghost use Rattle.std.specs.Ordering.{is_eq};
 ghost use Rattle.merlin_model.specs.declared.policy.Path.{Path};
 ghost use Rattle.path_regex.specs.Order.{order};
 ghost use Rattle.path_automaton.specs.Built.{IsBuilt};
-ghost use Rattle.policy_check.specs.Sharing.{IsTableOf, AreShared, IsNumberFor, IsFaultAt, IsLargeAmong};
+ghost use Rattle.policy_check.specs.Sharing.{IsTableOf, ShareAutomata, IsNumberFor, IsFaultOfPath, IsLargeAmong};
 
 use crate::fault::CheckFault;
 use merlin_model::policy::{Path, Symbol};
@@ -76,8 +76,8 @@ fn add_path(
     path: &Path,
     symbols: &[Symbol],
 ) -> Result<(), AutomatonFault>
-    ensures ok { OnOk result ((paths : List Path) → AreShared symbols.now paths automata.old →
-        AreShared symbols.now (paths ++ path.now ∷ []) automata.new) }
+    ensures ok { OnOk result ((paths : List Path) → ShareAutomata symbols.now paths automata.old →
+        ShareAutomata symbols.now (paths ++ path.now ∷ []) automata.new) }
     ensures err { IfErr result (λ fault. IsBuilt path.now symbols.now (Err fault)) }
 {
     let form = normal(alloc, path)?;
@@ -98,7 +98,7 @@ fn id_at(alloc: Global, ids: &[Name], place: usize) -> Result<Option<Name>, OutO
 
 // What the fault of the path at a place is for a policy.
 fn fault_at(alloc: Global, ids: &[Name], place: usize, fault: AutomatonFault) -> CheckFault
-    ensures { IsFaultAt ids.now place fault result }
+    ensures { IsFaultOfPath ids.now place fault result }
 {
     let AutomatonFault::TooManyStates { count } = fault else {
         return CheckFault::OutOfMemory;
@@ -116,7 +116,7 @@ pub(crate) fn automata_of(
     paths: &[Path],
     symbols: &[Symbol],
 ) -> Result<Automata, CheckFault>
-    ensures ok { IfOk result (AreShared symbols.now paths.now) }
+    ensures ok { IfOk result (ShareAutomata symbols.now paths.now) }
     ensures err { IfErr result (IsLargeAmong ids.now symbols.now paths.now) }
 {
     let mut automata = Automata {

@@ -6,7 +6,7 @@ ghost use Rattle.std.specs.Option.{option_copied};
 ghost use Rattle.merlin_model.specs.Policies.{paths_of};
 ghost use Rattle.rate_formula.specs.Usage.{ids_in};
 ghost use Rattle.localise.specs.Localised.{localised};
-ghost use Rattle.policy_check.specs.Checked.{IsSoundPolicy, automaton_of};
+ghost use Rattle.policy_check.specs.Checked.{IsSoundPolicy, automaton_of_statement};
 
 use crate::automata::Automata;
 use crate::listing::Listing;
@@ -38,11 +38,11 @@ impl Model for Checked {
 
     ghost coded = { Prim.hlevel (codes, path.the_row.coded, pred.the_row.coded) };
 
-    ghost use Rattle.policy_check.specs.Kept.{checked_in, IsKept};
+    ghost use Rattle.policy_check.specs.Kept.{checked_in, IsWholeCheck};
 
     ghost view = { checked_in };
 
-    ghost invariant = { IsKept };
+    ghost invariant = { IsWholeCheck };
 }
 
 impl Checked {
@@ -79,7 +79,7 @@ impl Checked {
     /// The automaton of the path of a statement, or of the default.
     pub fn automaton(&self, statement: usize) -> &Automaton
         requires { statement < length (paths_of self.now.policy) }
-        ensures { automaton_of self.now statement ≡ Some result.now }
+        ensures { automaton_of_statement self.now statement ≡ Some result.now }
     {
         let built = self.automata.built.as_slice();
         automaton_at(built, self.automata.numbers.as_slice(), statement)

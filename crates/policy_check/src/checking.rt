@@ -56,7 +56,12 @@ pub fn check(
     localise::laws::no_fault_leaves_room();
     let paths = numbered_paths(alloc, policy, net)?;
     let judged = judge(alloc, policy)?;
-    let automata = automata_of(alloc, judged.listing.ids.as_slice(), paths.as_slice(), symbols)?;
+    let automata = automata_of(
+        alloc,
+        judged.listing.ids.as_slice(),
+        paths.as_slice(),
+        symbols,
+    )?;
     let formula = policy.formula.copy(alloc)?;
     Ok(Checked {
         listing: judged.listing,

@@ -15,11 +15,17 @@ use std::alloc::{AllocError, AllocFailed};
 #[derive(Drop)]
 pub enum CheckFault {
     /// Neither a location nor a function bears this name, which stands in a path.
-    UnknownName { name: Name },
+    UnknownName {
+        name: Name,
+    },
     /// The function of this name stands under a `!`.
-    FunctionUnderNot { name: Name },
+    FunctionUnderNot {
+        name: Name,
+    },
     /// The predicates part the packets into more classes than there may be. The count is one past the limit.
-    TooManyClasses { count: u64 },
+    TooManyClasses {
+        count: u64,
+    },
     /// The predicates of both statements hold of the packet.
     Overlap {
         first: Name,
@@ -27,11 +33,16 @@ pub enum CheckFault {
         packet: Packet,
     },
     /// No predicate holds of the packet, and there is no default.
-    NotTotal { packet: Packet },
+    NotTotal {
+        packet: Packet,
+    },
     /// The formula gives no rates.
     Rate(RateFault),
     /// The path of this statement, or of the default where there is no id, has more states than there may be. The count is one past the limit.
-    TooManyStates { id: Option<Name>, count: u64 },
+    TooManyStates {
+        id: Option<Name>,
+        count: u64,
+    },
     OutOfMemory,
 }
 

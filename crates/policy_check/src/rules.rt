@@ -71,7 +71,11 @@ fn ask_total(alloc: Global, policy: &Policy, preds: &[Pred]) -> Result<(), Check
 }
 
 // The rates of the statements, if the predicates are as they must be.
-pub(crate) fn rates_of(alloc: Global, policy: &Policy, listing: &Listing) -> Result<Rates, CheckFault>
+pub(crate) fn rates_of(
+    alloc: Global,
+    policy: &Policy,
+    listing: &Listing,
+) -> Result<Rates, CheckFault>
     requires ids { listing.now.ids ≡ listed_ids policy.now }
     requires preds { listing.now.preds ≡ listed_preds policy.now }
     requires formed { AllByRecursion IsPred (listed_preds policy.now) }

@@ -115,7 +115,7 @@ module _ (known : List ℕ → Option Path) (places : (name : List ℕ) → IsPl
         let one = names_of negated part in
         let others = names_of_each negated rest in
         let split = append-none (map (λ (name : PathName). name.text) (filter (is_faulty known) one)) (map (λ (name : PathName). name.text) (filter (is_faulty known) others))
-            (sym (ap (map (λ (name : PathName). name.text)) (filter-append (is_faulty known) one others) ∙ map-append (λ (name : PathName). name.text) (filter (is_faulty known) one) (filter (is_faulty known) others)) ∙ e) in
+        (sym (ap (map (λ (name : PathName). name.text)) (filter-append (is_faulty known) one others) ∙ map-append (λ (name : PathName). name.text) (filter (is_faulty known) one) (filter (is_faulty known) others)) ∙ e) in
         (free negated part split.0, free-each negated rest split.1)
 
   free-all : (paths : List RawPath) → flat_map (faulty_in known false) paths ≡ [] → AllByRecursion HasNoFunctionUnderNot (map (numbered known) paths)

@@ -1,3 +1,6 @@
-pub mod Shapes
-pub mod Tabled
-pub mod Ordered
+pub mod Overlapping
+pub mod Rated
+pub mod Forms
+pub mod Assembled
+pub mod Sound
+pub mod Keeping

@@ -1,2 +1,7 @@
-pub mod Names
-pub mod Meanings
+pub mod Conversions
+pub mod Numbered
+pub mod Rules
+pub mod Parts
+pub mod Sharing
+pub mod Checked
+pub mod Kept

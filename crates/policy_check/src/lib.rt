@@ -1,11 +1,13 @@
-//! Whether a policy and a topology fit each other. So far: what the names in the paths of a policy stand for.
+//! Whether a policy and a topology fit each other, and between which hosts what is guaranteed goes.
 #![tactic(auto)]
 
+mod automata;
+mod checked;
+mod checking;
 mod fault;
-mod faulty;
-mod names;
-mod numbering;
-mod resolving;
+mod listing;
+mod rules;
 
-pub use fault::NameFault;
-pub use resolving::numbered_paths;
+pub use checked::Checked;
+pub use checking::check;
+pub use fault::CheckFault;

@@ -1,0 +1,11 @@
+use Rattle.std.proofs.Common.{◌≡◌, length, sym, ◌∙◌, ap}
+use Rattle.merlin_model.specs.Policies.{paths_of}
+use Rattle.policy_check.specs.Checked.{CheckedPolicy}
+use Rattle.policy_check.proofs.Keeping.{paths-view}
+use Rattle.policy_check.proofs.checked.Checked.statements.Goals as goal
+
+pub returns-clause-count : goal.returns-clause-count
+returns-clause-count c =
+    c.len.ensures
+    ∙ (ap length (sym (paths-view c.self.inside c.self.invariant))
+    ∙ ap (λ (checked : CheckedPolicy). length (paths_of checked.policy)) c.self.view_is)

@@ -1,0 +1,4 @@
+pub mod Shapes
+pub mod Tabled
+pub mod Ordered
+pub mod Functionless

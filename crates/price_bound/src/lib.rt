@@ -1,0 +1,7 @@
+//! What is found of a box of the program by whole-number prices on links and shortest walks.
+#![tactic(auto)]
+
+mod flow_graph;
+mod leaf;
+mod measure;
+mod permitted;

@@ -1,2 +1,6 @@
 pub mod Permitting
 pub mod Rows
+pub mod WayBack
+pub mod Trails
+pub mod Sizes
+pub mod Marking

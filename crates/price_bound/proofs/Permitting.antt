@@ -1,5 +1,6 @@
 -- The steps of a flow, gathered one after the other.
-use Rattle.std.proofs.Common.{◌≡◌, ◌≢◌, ℕ, zero, suc, ◌+◌, ◌≤◌, ◌<◌, nat_eq, Bool, true, false, List, [], ◌∷◌, ◌++◌, map, length, get_or, Option, None, Some, slice_get, refl, sym, ◌∙◌, ap, subst, arith, length-append}
+use Rattle.std.proofs.Common.{◌≡◌, ◌≢◌, ℕ, zero, suc, ◌+◌, ◌≤◌, ◌<◌, nat_eq, max, Bool, true, false, List, [], ◌∷◌, ◌++◌, map, length, get_or, Option, None, Some, slice_get, refl, sym, ◌∙◌, ap, subst, arith, length-append}
+use Rattle.std.proofs.lemmas.Int.{clamps}
 use Rattle.std.proofs.lemmas.List.{length-map}
 use Rattle.std.proofs.lemmas.Option.{slice_get_within, slice_get-get_or, get_or_from_slice_get}
 use Rattle.std.specs.List.{AllByRecursion}
@@ -11,7 +12,7 @@ use Rattle.cutoff_program.specs.Flows.{variables_of, last_of}
 use Rattle.cutoff_program.specs.Easy.{MayIn}
 use Rattle.cutoff_program.specs.Limits.{IsProblem}
 use Rattle.graph_search.specs.Graphs.{AreEdgesAmong}
-use Rattle.graph_search.proofs.Places.{all-get, all-snoc, some-same}
+use Rattle.graph_search.proofs.Places.{all-get, all-snoc, some-same, below-get}
 use Rattle.price_candidates.proofs.Places.{flow-of}
 use Rattle.cutoff_program.specs.Flows.{program_at}
 use Rattle.merlin_model.specs.Programs.{variables}
@@ -19,11 +20,11 @@ use Rattle.price_bound.specs.declared.flow_graph.Step.{Step}
 use Rattle.price_bound.specs.Steps.{step_of, edges_in}
 use Rattle.price_bound.specs.Graphs.{IsPermittedStep, ArePermittedSteps}
 
-pub no_step : Step
+abbrev pub no_step : Step
 no_step = record { variable = 0; edge = record { from = 0; to = 0; cost = 0 } }
 
 pub count-is : (problem : Problem) (cutoff : Option Value) → variables (program_at problem cutoff) ≡ length (variables_of problem)
-count-is problem cutoff = length-map _ (variables_of problem)
+count-is problem cutoff = let e : variables (program_at problem cutoff) ≡ length (variables_of problem) = grind (arith, length-map) in e
 
 within-at : (n : ℕ) (steps : List Step) (k : ℕ) (s : Step) → AreEdgesAmong n (edges_in steps) → slice_get steps k ≡ Some s → (s.edge.from < n) × (s.edge.to < n)
 within-at n [] k s all e = let none-some : None ≡ Some s → ⊥ = λ x. cc in absurd (none-some e)
@@ -108,3 +109,12 @@ module _ (problem : Problem) (cutoff : Option Value) (box : List (Option Bool)) 
   pub steps-within : (flow : Flow) (steps : List Step) → IsProblem problem → slice_get problem.flows n ≡ Some flow → AllByRecursion (IsPermittedStep problem cutoff box n f) steps → AreEdgesAmong (last_of flow + 1) (edges_in steps)
   steps-within flow [] is stands each = tt
   steps-within flow (s ∷ steps) is stands each = (step-within flow is stands s each.0, steps-within flow steps is stands each.1)
+
+  pub gathered-within : (vertices : ℕ) (steps : List Step) → IsProblem problem → n < length problem.flows → ((flow : Flow) → slice_get problem.flows n ≡ Some flow → vertices ≡ last_of flow + 1) → AllByRecursion (IsPermittedStep problem cutoff box n f) steps →
+      AreEdgesAmong vertices (edges_in steps)
+  gathered-within vertices steps is h size each =
+      let at = below-get problem.flows n h in
+      subst (λ m. AreEdgesAmong m (edges_in steps)) (sym (size at.0 at.1)) (steps-within at.0 steps is at.1 each)
+
+pub most-is : (flow : Flow) → max flow.vertices 2 ≡ last_of flow + 1
+most-is flow = grind (arith, clamps)

@@ -1,4 +1,5 @@
 pub mod Asked
 pub mod Steps
 pub mod Graphs
+pub mod Spreads
 pub mod Priced

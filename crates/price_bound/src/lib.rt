@@ -5,3 +5,4 @@ mod flow_graph;
 mod leaf;
 mod measure;
 mod permitted;
+mod spread;

@@ -74,6 +74,15 @@ fn step(program: &MerlinProgram, measure: Measure, variable: usize) -> Step
     }
 }
 
+// The number of vertices of a flow, where a start and an end count also where there is none.
+fn vertices_of(program: &MerlinProgram, flow: usize) -> usize
+    requires { flow < length program.now.problem.flows }
+    ensures { (stated : Flow) → slice_get program.now.problem.flows flow ≡ Some stated →
+        result ≡ last_of stated + 1 }
+{
+    program.problem().flows.as_slice()[flow].vertices.max(2)
+}
+
 /// The edges that a flow may take in a box, each with what it adds.
 pub fn graph_of(
     alloc: Global,
@@ -96,6 +105,8 @@ pub fn graph_of(
             steps.push(step(program, measure, variable))?;
         }
     }
-    let vertices = program.problem().flows.as_slice()[flow].vertices.max(2);
-    Ok(FlowGraph { vertices, steps })
+    Ok(FlowGraph {
+        vertices: vertices_of(program, flow),
+        steps,
+    })
 }

@@ -4,3 +4,5 @@ pub mod WayBack
 pub mod Trails
 pub mod Sizes
 pub mod Marking
+pub mod Flat
+pub mod Costing

@@ -183,10 +183,10 @@ module _ (problem : Problem) (cutoff : Option Value) (box : List (Option Bool)) 
       other : (x : ℕ) → IsOnWay before (length ks) x → AllByRecursion (λ y. x ≢ y) (v ∷ [])
       other x w = (
         (λ e.
-        let same = ap length (one-way (edges_in steps) before 0 w.ts (k ∷ ks) v (subst (GoesBack (edges_in steps) before 0 w.ts) e w.goes) g) in
-        let l : length (k ∷ ks) ≡ suc (length ks) = refl in
-        let h = w.few in
-        let bad : ⊥ = omega arith in bad),
+            let same = ap length (one-way (edges_in steps) before 0 w.ts (k ∷ ks) v (subst (GoesBack (edges_in steps) before 0 w.ts) e w.goes) g) in
+            let l : length (k ∷ ks) ≡ suc (length ks) = refl in
+            let h = w.few in
+            let bad : ⊥ = omega arith in bad),
         tt,
       )
 

@@ -3,3 +3,4 @@ pub mod Steps
 pub mod Graphs
 pub mod Spreads
 pub mod Priced
+pub mod Numbers

@@ -1,8 +1,10 @@
 //! What is found of a box of the program by whole-number prices on links and shortest walks.
 #![tactic(auto)]
 
+mod costs;
 mod flow_graph;
 mod leaf;
 mod measure;
+mod numbers;
 mod permitted;
 mod spread;

@@ -74,8 +74,8 @@ fn step(program: &MerlinProgram, measure: Measure, variable: usize) -> Step
     }
 }
 
-// The number of vertices of a flow, where a start and an end count also where there is none.
-fn vertices_of(program: &MerlinProgram, flow: usize) -> usize
+/// The number of vertices of a flow, where a start and an end count also where there is none.
+pub fn vertices_of(program: &MerlinProgram, flow: usize) -> usize
     requires { flow < length program.now.problem.flows }
     ensures { (stated : Flow) → slice_get program.now.problem.flows flow ≡ Some stated →
         result ≡ last_of stated + 1 }

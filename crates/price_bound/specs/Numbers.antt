@@ -1,5 +1,5 @@
 -- Numbers at the vertices of flows, one flow after the other.
-use Rattle.std.specs.Prelude.{ℕ, ◌≡◌, ◌<◌, ◌+◌, List, map, take, length, Option, None, Some, Bool, slice_get}
+use Rattle.std.specs.Prelude.{ℕ, ℤ, pos, negsuc, ◌≡◌, ◌<◌, ◌+◌, ◌⊎◌, List, map, take, length, Option, None, Some, Bool, slice_get}
 use Rattle.std.specs.List.{range_with_len}
 use Rattle.merlin_model.specs.declared.policy.Value.{Value}
 use Rattle.merlin_model.specs.declared.certificate.Weight.{Weight}
@@ -7,10 +7,10 @@ use Rattle.merlin_model.specs.Programs.{Program}
 use Rattle.merlin_model.specs.Trees.{RefutesBox}
 use Rattle.cutoff_program.specs.declared.flow.Problem.{Problem}
 use Rattle.cutoff_program.specs.declared.flow.Flow.{Flow}
-use Rattle.cutoff_program.specs.Flows.{last_of}
-use Rattle.cutoff_program.specs.Easy.{EachFlowHas}
+use Rattle.cutoff_program.specs.Flows.{last_of, program_at}
+use Rattle.cutoff_program.specs.Easy.{EachFlowHas, IsTrailThrough, MayIn}
 use Rattle.price_candidates.specs.Leaves.{flow_weights, AreSmallNumbers}
-use Rattle.price_candidates.specs.Tried.{IsLeastPath, IsFloorAt, IsUnreached, HasEdgesOf, only}
+use Rattle.price_candidates.specs.Tried.{IsLeastPath, IsFloorAt, IsUnreached, HasEdgesOf, HasFailed, IsLight, one_weight, only}
 use Rattle.price_bound.specs.declared.costs.Costs.{Costs}
 use Rattle.price_bound.specs.declared.costs.Found.{Found}
 use Rattle.price_bound.specs.declared.costs.Found.TheVariants.{Cut, Paths}
@@ -63,3 +63,30 @@ pub record AreFloors (problem : Problem) (cutoff : Option Value) (box : List (Op
 abbrev pub IsLeafTried : Program → List (Option Bool) → List Weight → Option (List Weight) → Type 0
 IsLeafTried program box leaf None = ¬ RefutesBox program box leaf
 IsLeafTried program box leaf (Some weights) = RefutesBox program box weights
+
+-- each flow has a path that may be taken
+abbrev pub EachIsReached : Problem → Option Value → List (Option Bool) → Type 0
+EachIsReached problem cutoff box =
+    (n : ℕ) (flow : Flow) → slice_get problem.flows n ≡ Some flow → (trail : List ℕ) × IsTrailThrough problem (MayIn problem cutoff box) n flow trail
+
+-- and the same of a link: weights that refute, or what was tried does not
+abbrev pub IsLinkTried : Problem → Option Value → List (Option Bool) → ℕ → Option (List Weight) → Type 0
+IsLinkTried problem cutoff box link None = HasFailed problem cutoff box link
+IsLinkTried problem cutoff box link (Some weights) = RefutesBox (program_at problem cutoff) box weights
+
+abbrev pub AreLinksTried : Problem → Option Value → List (Option Bool) → Option (List Weight) → Type 0
+AreLinksTried problem cutoff box None =
+    (link : ℕ) → link < length problem.links → HasFailed problem cutoff box link ⊎ IsLight problem cutoff box link
+AreLinksTried problem cutoff box (Some weights) = RefutesBox (program_at problem cutoff) box weights
+
+-- and of a row by itself, with the weight 1 or -1
+abbrev pub DoesNotRefute : Program → List (Option Bool) → ℕ → Type 0
+DoesNotRefute program box row = (weight : ℤ) → (weight ≡ pos 1) ⊎ (weight ≡ negsuc 0) → ¬ RefutesBox program box (one_weight row weight)
+
+abbrev pub IsRowTried : Program → List (Option Bool) → ℕ → Option (List Weight) → Type 0
+IsRowTried program box row None = DoesNotRefute program box row
+IsRowTried program box row (Some weights) = RefutesBox program box weights
+
+abbrev pub AreRowsTried : Program → List (Option Bool) → Option (List Weight) → Type 0
+AreRowsTried program box None = (row : ℕ) → row < length program.rows → DoesNotRefute program box row
+AreRowsTried program box (Some weights) = RefutesBox program box weights

@@ -2,9 +2,11 @@
 #![tactic(auto)]
 
 mod costs;
+mod floors;
 mod flow_graph;
 mod leaf;
 mod measure;
 mod numbers;
 mod permitted;
 mod spread;
+mod tried;

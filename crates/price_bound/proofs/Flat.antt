@@ -1,8 +1,10 @@
 -- Numbers at vertices, one flow after the other.
-use Rattle.std.proofs.Common.{◌≡◌, ◌≢◌, ℕ, zero, suc, ◌+◌, ◌≤◌, ◌<◌, ◌^◌, ◌==◌, Bool, true, false, cond, List, [], ◌∷◌, ◌++◌, map, take, length, replicate, Option, None, Some, slice_get, refl, sym, ◌∙◌, ap, subst, append_assoc, arith}
+use Rattle.std.proofs.Common.{◌≡◌, ◌≢◌, ℕ, zero, suc, ◌+◌, ◌≤◌, ◌<◌, ◌^◌, ◌==◌, Bool, true, false, cond, List, [], ◌∷◌, ◌++◌, map, take, length, replicate, Option, None, Some, slice_get, refl, sym, ◌∙◌, ap, subst, append_assoc, length-append, arith}
 use Rattle.std.proofs.lemmas.List.{append-nil}
 use Rattle.std.proofs.lemmas.Option.{get_or_from_slice_get, slice_get_within}
-use Rattle.std.specs.List.{range_with_len}
+use Rattle.std.proofs.lemmas.List.FromFn.{length-map-range_with_len}
+use Rattle.std.specs.List.{AllByRecursion, range_with_len}
+use Rattle.cutoff_program.proofs.Lists.{all_both}
 use Rattle.cutoff_program.specs.declared.flow.Flow.{Flow}
 use Rattle.cutoff_program.specs.Flows.{last_of}
 use Rattle.cutoff_program.specs.Easy.{EachFlowHas}
@@ -106,3 +108,32 @@ each-so Q R bound n [] [] so h each = tt
 each-so Q R bound n [] (x ∷ xs) so h each = absurd each
 each-so Q R bound n (flow ∷ flows) [] so h each = absurd each
 each-so Q R bound n (flow ∷ flows) (x ∷ xs) so h each = (so n flow x (omega arith) each.0, each-so Q R bound (n + 1) flows xs so (omega arith) each.1)
+
+-- All numbers of flows are small, and there are as many whatever they are.
+
+numbers-small : (at : ℕ → ℕ → ℕ) (n a c : ℕ) → AreSmallNumbers at → AllByRecursion (λ m. m ≤ 2 ^ 60) (map (λ u. at n u) (range_with_len a c))
+numbers-small at n a zero small = tt
+numbers-small at n a (suc c) small = (small.low n a, numbers-small at n (a + 1) c small)
+
+pub all-small : (at : ℕ → ℕ → ℕ) (n : ℕ) (flows : List Flow) → AreSmallNumbers at → AllByRecursion (λ m. m ≤ 2 ^ 60) (flow_weights at n flows)
+all-small at n [] small = tt
+all-small at n (flow ∷ flows) small = all_both (λ m. m ≤ 2 ^ 60) (numbers_at at n flow) (flow_weights at (n + 1) flows) (numbers-small at n 0 (last_of flow + 1) small) (all-small at (n + 1) flows small)
+
+zeros-both : (a b : ℕ) → (let zero_of : ℕ = 0 in replicate (a + b) zero_of) ≡ (let zero_of : ℕ = 0 in replicate a zero_of ++ replicate b zero_of)
+zeros-both zero b = ap (λ c. let zero_of : ℕ = 0 in replicate c zero_of) (let e : zero + b ≡ b = omega arith in e)
+zeros-both (suc a) b = ap (λ c. let zero_of : ℕ = 0 in replicate c zero_of) (let e : suc a + b ≡ suc (a + b) = omega arith in e) ∙ ap (λ ys. 0 ∷ ys) (zeros-both a b)
+
+pub zeros-flat : (at : ℕ → ℕ → ℕ) (n : ℕ) (flows : List Flow) → (let zero_of : ℕ = 0 in replicate (length (flow_weights at n flows)) zero_of) ≡ flow_weights (λ n u. 0) n flows
+zeros-flat at n [] = refl
+zeros-flat at n (flow ∷ flows) =
+    let l = length-append (numbers_at at n flow) (flow_weights at (n + 1) flows) in
+    let m = length-map-range_with_len (λ u. at n u) 0 (last_of flow + 1) in
+    let e : length (numbers_at at n flow ++ flow_weights at (n + 1) flows) ≡ last_of flow + 1 + length (flow_weights at (n + 1) flows) = omega arith in
+    ap (λ c. let zero_of : ℕ = 0 in replicate c zero_of) e ∙ zeros-both (last_of flow + 1) (length (flow_weights at (n + 1) flows))
+    ∙ ap (λ l. l ++ (let zero_of : ℕ = 0 in replicate (length (flow_weights at (n + 1) flows)) zero_of)) (zeros-from 0 (last_of flow + 1))
+    ∙ ap (λ l. map (λ u. 0) (range_with_len 0 (last_of flow + 1)) ++ l) (zeros-flat at (n + 1) flows)
+
+-- as many zeros as there are numbers
+pub zeros-put : (numbers empty zeros : List ℕ) (at : ℕ → ℕ → ℕ) (flows : List Flow) → numbers ≡ flow_weights at 0 flows → empty ≡ [] → zeros ≡ empty ++ (let zero_of : ℕ = 0 in replicate (length numbers) zero_of) → zeros ≡ flow_weights (λ n u. 0) 0 flows
+zeros-put numbers empty zeros at flows flat none put =
+    put ∙ ap (λ l. l ++ (let zero_of : ℕ = 0 in replicate (length numbers) zero_of)) none ∙ ap (λ l. let zero_of : ℕ = 0 in replicate (length l) zero_of) flat ∙ zeros-flat at 0 flows

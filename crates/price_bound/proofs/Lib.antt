@@ -1,3 +1,4 @@
+pub mod Steps
 pub mod Permitting
 pub mod Rows
 pub mod WayBack
@@ -6,3 +7,4 @@ pub mod Sizes
 pub mod Marking
 pub mod Flat
 pub mod Costing
+pub mod Flooring

@@ -10,7 +10,7 @@ use Rattle.cutoff_program.specs.declared.flow.Flow.{Flow}
 use Rattle.cutoff_program.specs.Flows.{last_of, program_at}
 use Rattle.cutoff_program.specs.Easy.{EachFlowHas, IsTrailThrough, MayIn}
 use Rattle.price_candidates.specs.Leaves.{flow_weights, AreSmallNumbers}
-use Rattle.price_candidates.specs.Tried.{IsLeastPath, IsFloorAt, IsUnreached, HasEdgesOf, HasFailed, IsLight, one_weight, only}
+use Rattle.price_candidates.specs.Tried.{IsLeastPath, IsFloorAt, IsUnreached, HasEdgesOf, HasFailed, IsLight, IsTried, leaf_by_costs, one_weight, only}
 use Rattle.price_bound.specs.declared.costs.Costs.{Costs}
 use Rattle.price_bound.specs.declared.costs.Found.{Found}
 use Rattle.price_bound.specs.declared.costs.Found.TheVariants.{Cut, Paths}
@@ -90,3 +90,16 @@ IsRowTried program box row (Some weights) = RefutesBox program box weights
 abbrev pub AreRowsTried : Program → List (Option Bool) → Option (List Weight) → Type 0
 AreRowsTried program box None = (row : ℕ) → row < length program.rows → DoesNotRefute program box row
 AreRowsTried program box (Some weights) = RefutesBox program box weights
+
+-- Paths of least cost were found, and neither their costs nor a link refutes.
+pub record ArePricesTried (problem : Problem) (cutoff : Option Value) (box : List (Option Bool)) (point : List Bool) : Type 0 where
+  pub at : ℕ → ℕ → ℕ
+  pub paths : List (List ℕ)
+  pub tried : IsTried problem cutoff box at paths
+  pub of : HasEdgesOf problem paths point
+  pub lengths : ¬ RefutesBox (program_at problem cutoff) box (leaf_by_costs problem at)
+  pub links : AreLinksTried problem cutoff box None
+
+-- the leaf of these costs does not refute
+abbrev pub DoNotRefute : Problem → Option Value → List (Option Bool) → List ℕ → Type 0
+DoNotRefute problem cutoff box numbers = (at : ℕ → ℕ → ℕ) → numbers ≡ flow_weights at 0 problem.flows → ¬ RefutesBox (program_at problem cutoff) box (leaf_by_costs problem at)

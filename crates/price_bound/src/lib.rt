@@ -8,5 +8,8 @@ mod leaf;
 mod measure;
 mod numbers;
 mod permitted;
+mod prices;
 mod spread;
 mod tried;
+
+pub use prices::{Prices, new};

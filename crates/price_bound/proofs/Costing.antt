@@ -1,5 +1,5 @@
 -- A flow that is added to the costs.
-use Rattle.std.proofs.Common.{◌≡◌, ◌≢◌, ℕ, zero, suc, ◌+◌, ◌-◌, ◌*◌, ◌≤◌, ◌<◌, ◌^◌, lit<, ◌==◌, ◌⊎◌, inl, inr, ◌↔◌, Bool, true, false, cond, List, [], ◌∷◌, ◌++◌, map, take, length, reverse, replicate, Contains, Option, None, Some, slice_get, min, refl, sym, ◌∙◌, ap, subst, append_assoc, arith}
+use Rattle.std.proofs.Common.{◌≡◌, ℕ, zero, suc, ◌+◌, ◌-◌, ◌*◌, ◌≤◌, ◌<◌, ◌^◌, lit<, ◌==◌, ◌⊎◌, inl, inr, Bool, true, false, cond, List, [], ◌∷◌, ◌++◌, map, take, length, reverse, replicate, Contains, Option, None, Some, slice_get, min, refl, sym, ◌∙◌, ap, subst, append_assoc, arith}
 use Rattle.std.proofs.lemmas.Int.{clamps}
 use Rattle.std.proofs.lemmas.List.{append-nil, length-replicate}
 use Rattle.std.proofs.lemmas.Option.{slice_get_within}
@@ -9,25 +9,24 @@ use Rattle.merlin_model.specs.Programs.{is_chosen}
 use Rattle.merlin_model.proofs.Members.{In, in_from, in_to, in_append, in_append-left, in_append-right}
 use Rattle.cutoff_program.specs.declared.flow.Problem.{Problem}
 use Rattle.cutoff_program.specs.declared.flow.Flow.{Flow}
-use Rattle.cutoff_program.specs.declared.flow.Variable.{Variable}
 use Rattle.cutoff_program.specs.Flows.{variables_of, last_of, cost_of_variable}
-use Rattle.cutoff_program.specs.Trails.{IsPath as IsPathOf, sum_along, edges_of}
+use Rattle.cutoff_program.specs.Trails.{edges_of}
 use Rattle.cutoff_program.specs.Limits.{IsProblem}
-use Rattle.cutoff_program.specs.Easy.{MayIn, EachFlowHas}
+use Rattle.cutoff_program.specs.Easy.{EachFlowHas}
 use Rattle.cutoff_program.proofs.Lists.{all_so}
 use Rattle.graph_search.specs.Graphs.{known_at, GoesBack}
-use Rattle.price_candidates.specs.Leaves.{flow_weights, AreSmallNumbers, IsPotential}
-use Rattle.price_candidates.specs.Tried.{AreLeastSums, IsReached, IsLeastPath, HasEdgesOf, capped, missing, only}
+use Rattle.price_candidates.specs.Leaves.{flow_weights, IsPotential}
+use Rattle.price_candidates.specs.Tried.{AreLeastSums, IsReached, IsLeastPath, capped, missing, only}
 use Rattle.price_candidates.proofs.Spreading.{path-small, least-reached, least-unreached}
 use Rattle.graph_search.proofs.Places.{take-next}
 use Rattle.price_bound.specs.declared.flow_graph.Step.{Step}
 use Rattle.price_bound.specs.declared.measure.Measure.{Measure}
-use Rattle.price_bound.specs.declared.measure.Measure.TheVariants.{Cost, Rate}
+use Rattle.price_bound.specs.declared.measure.Measure.TheVariants.{Cost}
 use Rattle.price_bound.specs.declared.spread.Spread.{Spread}
 use Rattle.price_bound.specs.declared.costs.Costs.{Costs}
 use Rattle.price_bound.specs.Asked.{measured}
 use Rattle.price_bound.specs.Steps.{edges_in}
-use Rattle.price_bound.specs.Graphs.{IsPermittedStep, IsPermittedGraph}
+use Rattle.price_bound.specs.Graphs.{IsPermittedStep}
 use Rattle.price_bound.specs.Spreads.{IsSpread, IsMarked, variables_along, variable_of_step}
 use Rattle.price_bound.specs.Numbers.{AreCosts, IsCutAt}
 use Rattle.price_bound.proofs.WayBack.{reverse-cons}

@@ -1,7 +1,7 @@
 -- Numbers at vertices, one flow after the other.
 use Rattle.std.proofs.Common.{◌≡◌, ◌≢◌, ℕ, zero, suc, ◌+◌, ◌≤◌, ◌<◌, ◌^◌, ◌==◌, Bool, true, false, cond, List, [], ◌∷◌, ◌++◌, map, take, length, replicate, Option, None, Some, slice_get, refl, sym, ◌∙◌, ap, subst, append_assoc, length-append, arith}
 use Rattle.std.proofs.lemmas.List.{append-nil}
-use Rattle.std.proofs.lemmas.Option.{get_or_from_slice_get, slice_get_within}
+use Rattle.std.proofs.lemmas.Option.{get_or_from_slice_get}
 use Rattle.std.proofs.lemmas.List.FromFn.{length-map-range_with_len}
 use Rattle.std.specs.List.{AllByRecursion, range_with_len}
 use Rattle.cutoff_program.proofs.Lists.{all_both}
@@ -9,7 +9,7 @@ use Rattle.cutoff_program.specs.declared.flow.Flow.{Flow}
 use Rattle.cutoff_program.specs.Flows.{last_of}
 use Rattle.cutoff_program.specs.Easy.{EachFlowHas}
 use Rattle.graph_search.specs.Graphs.{known_at}
-use Rattle.graph_search.proofs.Places.{take-next, none-some, some-same}
+use Rattle.graph_search.proofs.Places.{take-next, none-some}
 use Rattle.price_candidates.specs.Leaves.{flow_weights, AreSmallNumbers}
 use Rattle.price_candidates.specs.Tried.{missing, only}
 use Rattle.price_bound.specs.Numbers.{numbers_at}

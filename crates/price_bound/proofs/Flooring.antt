@@ -1,5 +1,5 @@
 -- A flow that is added to what is tried of a link.
-use Rattle.std.proofs.Common.{◌≡◌, ◌≢◌, ℕ, zero, suc, ◌+◌, ◌-◌, ◌≤◌, ◌<◌, ◌^◌, ◌==◌, nat_eq, ◌⊎◌, inl, inr, Bool, true, false, cond, List, [], ◌∷◌, ◌++◌, map, take, length, replicate, Option, None, Some, slice_get, min, refl, sym, ◌∙◌, ap, subst, arith}
+use Rattle.std.proofs.Common.{◌≡◌, ℕ, ◌+◌, ◌≤◌, ◌<◌, ◌^◌, ◌==◌, ◌⊎◌, inl, inr, Bool, true, false, cond, List, [], ◌++◌, map, length, replicate, Option, None, Some, slice_get, min, refl, sym, ◌∙◌, ap, subst, arith}
 use Rattle.std.proofs.lemmas.Int.{clamps}
 use Rattle.std.specs.List.{range_with_len}
 use Rattle.merlin_model.specs.declared.policy.Value.{Value}
@@ -11,10 +11,9 @@ use Rattle.cutoff_program.specs.declared.flow.Problem.{Problem}
 use Rattle.cutoff_program.specs.declared.flow.Flow.{Flow}
 use Rattle.cutoff_program.specs.Flows.{variables_of, last_of, rate_over}
 use Rattle.cutoff_program.specs.Limits.{IsProblem}
-use Rattle.cutoff_program.specs.Easy.{fixed_from, IsTrailThrough, MayIn}
+use Rattle.cutoff_program.specs.Easy.{fixed_from}
 use Rattle.graph_search.specs.Graphs.{known_at}
 use Rattle.graph_search.proofs.Places.{none-some, some-same, le-or-lt}
-use Rattle.price_candidates.specs.Leaves.{flow_weights}
 use Rattle.price_candidates.specs.Tried.{IsReached, IsFloorByPath, IsFloorByFixed, IsFloorAt, capped}
 use Rattle.price_candidates.proofs.Spreading.{least-reached}
 use Rattle.price_bound.specs.declared.measure.Measure.TheVariants.{Rate}

@@ -8,3 +8,4 @@ pub mod Marking
 pub mod Flat
 pub mod Costing
 pub mod Flooring
+pub mod Looking

@@ -1,8 +1,8 @@
 -- The steps of a flow, gathered one after the other.
-use Rattle.std.proofs.Common.{◌≡◌, ◌≢◌, ℕ, zero, suc, ◌+◌, ◌≤◌, ◌<◌, nat_eq, max, Bool, true, false, List, [], ◌∷◌, ◌++◌, map, length, get_or, Option, None, Some, slice_get, refl, sym, ◌∙◌, ap, subst, arith, length-append}
+use Rattle.std.proofs.Common.{◌≡◌, ◌≢◌, ℕ, zero, suc, ◌+◌, ◌≤◌, ◌<◌, nat_eq, max, Bool, true, false, List, [], ◌∷◌, ◌++◌, length, get_or, Option, None, Some, slice_get, refl, sym, ◌∙◌, ap, subst, arith, length-append}
 use Rattle.std.proofs.lemmas.Int.{clamps}
 use Rattle.std.proofs.lemmas.List.{length-map}
-use Rattle.std.proofs.lemmas.Option.{slice_get_within, slice_get-get_or, get_or_from_slice_get}
+use Rattle.std.proofs.lemmas.Option.{slice_get_within, slice_get-get_or}
 use Rattle.std.specs.List.{AllByRecursion}
 use Rattle.merlin_model.specs.declared.policy.Value.{Value}
 use Rattle.cutoff_program.specs.declared.flow.Problem.{Problem}
@@ -12,7 +12,7 @@ use Rattle.cutoff_program.specs.Flows.{variables_of, last_of}
 use Rattle.cutoff_program.specs.Easy.{MayIn}
 use Rattle.cutoff_program.specs.Limits.{IsProblem}
 use Rattle.graph_search.specs.Graphs.{AreEdgesAmong}
-use Rattle.graph_search.proofs.Places.{all-get, all-snoc, some-same, below-get}
+use Rattle.graph_search.proofs.Places.{all-snoc, some-same, below-get}
 use Rattle.price_candidates.proofs.Places.{flow-of}
 use Rattle.cutoff_program.specs.Flows.{program_at}
 use Rattle.merlin_model.specs.Programs.{variables}

@@ -1,10 +1,9 @@
 -- How great what is added gets.
-use Rattle.std.proofs.Common.{◌≡◌, ◌∙◌, ℕ, ◌+◌, ◌*◌, ◌^◌, ◌≤◌, ◌<◌, lit<, List, [], ◌∷◌, length, Option, None, Some, Bool, slice_get, cond, true, false, refl, sym, ap, subst, arith}
-use Rattle.std.specs.List.{AllByRecursion}
+use Rattle.std.proofs.Common.{◌≡◌, ℕ, ◌*◌, ◌^◌, ◌≤◌, ◌<◌, lit<, List, length, Option, Some, Bool, slice_get, cond, true, false, ap, arith}
 use Rattle.merlin_model.specs.declared.policy.Value.{Value}
 use Rattle.cutoff_program.specs.declared.flow.Problem.{Problem}
 use Rattle.cutoff_program.specs.declared.flow.Variable.{Variable}
-use Rattle.cutoff_program.specs.Flows.{variables_of, rate_over, is_on, cost_of_variable}
+use Rattle.cutoff_program.specs.Flows.{variables_of, is_on, cost_of_variable}
 use Rattle.cutoff_program.specs.Limits.{IsProblem}
 use Rattle.cutoff_program.proofs.Lists.{all_so}
 use Rattle.cutoff_program.proofs.Variables.{rates-small}

@@ -1,5 +1,5 @@
 -- Steps of loops that try one after the other.
-use Rattle.std.proofs.Common.{ℕ, zero, suc, ◌≡◌, ◌<◌, ◌≤◌, ◌+◌, nat_eq, Bool, true, false, List, [], ◌∷◌, drop, length, get_or, Option, None, Some, slice_get, refl, sym, ◌∙◌, ap, subst, arith}
+use Rattle.std.proofs.Common.{ℕ, zero, suc, ◌≡◌, ◌<◌, ◌≤◌, ◌+◌, nat_eq, Bool, true, false, List, [], ◌∷◌, drop, length, get_or, Some, slice_get, refl, sym, ap, subst, arith}
 use Rattle.std.specs.Result.{IfOk}
 use Rattle.std.specs.declared.result.Result.{Result}
 use Rattle.std.specs.declared.result.Result.TheVariants.{Ok, Err}

@@ -1,15 +1,13 @@
 -- Paths through the graph of a flow, and trails over its variables.
-use Rattle.std.proofs.Common.{◌≡◌, ◌≢◌, ℕ, zero, suc, ◌+◌, ◌*◌, ◌≤◌, ◌<◌, ◌^◌, lit<, ◌⊎◌, inl, inr, Bool, List, [], ◌∷◌, ◌++◌, map, length, reverse, get_or, Option, None, Some, slice_get, refl, sym, ◌∙◌, ap, subst, arith, length-append}
+use Rattle.std.proofs.Common.{◌≡◌, ◌≢◌, ℕ, zero, suc, ◌+◌, ◌*◌, ◌≤◌, Bool, List, [], ◌∷◌, ◌++◌, length, reverse, Option, None, Some, slice_get, refl, sym, ◌∙◌, ap, subst, arith}
 use Rattle.std.proofs.lemmas.List.{length-map, length-reverse}
-use Rattle.std.proofs.lemmas.Option.{slice_get_within}
 use Rattle.std.proofs.lemmas.List.Sums.{sum_by-cons}
 use Rattle.std.specs.List.{AllByRecursion}
 use Rattle.merlin_model.specs.declared.policy.Value.{Value}
 use Rattle.merlin_model.specs.Networks.{AreDifferent}
 use Rattle.cutoff_program.specs.declared.flow.Problem.{Problem}
-use Rattle.cutoff_program.specs.declared.flow.Flow.{Flow}
 use Rattle.cutoff_program.specs.declared.flow.Variable.{Variable}
-use Rattle.cutoff_program.specs.Flows.{variables_of, last_of}
+use Rattle.cutoff_program.specs.Flows.{variables_of}
 use Rattle.cutoff_program.specs.Trails.{IsTrailOf, IsPath as IsPathOf, sum_along, comes_to, with_vertex}
 use Rattle.cutoff_program.specs.Easy.{MayIn}
 use Rattle.cutoff_program.proofs.Shortening.{comes_to-cons}
@@ -17,7 +15,7 @@ use Rattle.cutoff_program.proofs.Following.{sum-cons}
 use Rattle.graph_search.specs.declared.graph.Edge.{Edge}
 use Rattle.graph_search.specs.declared.paths.Potentials.{Potentials}
 use Rattle.graph_search.specs.Graphs.{known_at, IsPath, GoesBack, ArePotentials, cost_of_edge, cost_of_path, cost_of_all}
-use Rattle.graph_search.proofs.Places.{all-get, some-same, none-some, no-more}
+use Rattle.graph_search.proofs.Places.{all-get, some-same, none-some}
 use Rattle.price_candidates.specs.Tried.{AreLeastSums}
 use Rattle.cutoff_program.proofs.Lists.{all_so, all_both}
 use Rattle.cutoff_program.proofs.Points.{different-both}

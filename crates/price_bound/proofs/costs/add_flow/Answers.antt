@@ -1,13 +1,12 @@
-use Rattle.std.proofs.Common.{◌≡◌, ◌∙◌, ◌≤◌, ◌<◌, ◌+◌, ◌-◌, ◌++◌, List, Option, ℕ, None, Some, map, length, sym, ap, subst, arith}
+use Rattle.std.proofs.Common.{◌∙◌, ◌-◌, ◌++◌, List, Option, ℕ, map, length, sym, ap, subst, arith}
 use Rattle.std.specs.Option.{option_copied}
-use Rattle.cutoff_program.specs.Flows.{last_of}
 use Rattle.graph_search.specs.Graphs.{known_at, GoesBack}
 use Rattle.graph_search.proofs.Places.{below-get}
 use Rattle.price_candidates.specs.Leaves.{flow_weights}
 use Rattle.price_candidates.specs.Tried.{capped, missing, only}
 use Rattle.price_bound.specs.declared.measure.Measure.TheVariants.{Cost}
 use Rattle.price_bound.specs.Steps.{edges_in}
-use Rattle.price_bound.proofs.Costing.{end-is, distances-are, reached-end, steps-within, costs-more, cut-is}
+use Rattle.price_bound.proofs.Costing.{end-is, reached-end, steps-within, costs-more, cut-is}
 use Rattle.price_bound.proofs.costs.add_flow.Goals as goal
 
 pub overflow_sub-end : goal.overflow_sub-end

@@ -1,4 +1,4 @@
-use Rattle.std.proofs.Common.{ℕ, Option, ◌≡◌, ◌≤◌, ◌+◌, ◌*◌, ◌^◌, drop}
+use Rattle.std.proofs.Common.{Option, ◌≡◌, ◌≤◌, ◌+◌, ◌*◌, ◌^◌, drop}
 use Rattle.merlin_model.specs.declared.policy.Value.{Value}
 use Rattle.cutoff_program.specs.Flows.{variables_of}
 use Rattle.cutoff_program.specs.Easy.{fixed_from}

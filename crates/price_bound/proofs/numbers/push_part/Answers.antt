@@ -1,4 +1,4 @@
-use Rattle.std.proofs.Common.{◌≡◌, ◌++◌, Some, slice_get, sym, ap, subst}
+use Rattle.std.proofs.Common.{◌≡◌, ◌++◌, Some, slice_get, subst}
 use Rattle.std.specs.Result.{OnOk}
 use Rattle.graph_search.specs.Graphs.{known_at}
 use Rattle.price_candidates.specs.Tried.{missing}

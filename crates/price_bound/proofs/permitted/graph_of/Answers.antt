@@ -4,7 +4,7 @@ use Rattle.std.specs.Option.{option_copied}
 use Rattle.cutoff_program.specs.Flows.{variables_of}
 use Rattle.merlin_program.specs.Kept.{variable_at, no_variable}
 use Rattle.price_bound.specs.Asked.{measured}
-use Rattle.price_bound.proofs.Permitting.{AreStepsBelow, one-taken, one-left, all-gathered, steps-within, count-is, gathered-within}
+use Rattle.price_bound.proofs.Permitting.{AreStepsBelow, one-taken, one-left, all-gathered, count-is, gathered-within}
 use Rattle.price_bound.proofs.permitted.graph_of.Goals as goal
 use Rattle.price_bound.proofs.permitted.graph_of.Goals.{then-is_permitted+in_ok-push, else-is_permitted}
 

@@ -1,4 +1,4 @@
-use Rattle.std.proofs.Common.{◌≡◌, ◌∙◌, ◌<◌, ◌≤◌, ◌+◌, ◌++◌, ◌∷◌, [], List, ℕ, Option, suc, None, Some, length, get_or, slice_get, slice_set, true, refl, sym, ap, subst, append_assoc, arith}
+use Rattle.std.proofs.Common.{◌≡◌, ◌∙◌, ◌<◌, ◌≤◌, ◌++◌, ◌∷◌, [], List, ℕ, Option, suc, length, get_or, slice_set, true, refl, sym, ap, subst, append_assoc, arith}
 use Rattle.std.proofs.lemmas.List.{append-nil}
 use Rattle.std.proofs.lemmas.Option.{slice_get_within, slice_get-get_or}
 use Rattle.graph_search.specs.Graphs.{GoesBack, known_at}
@@ -9,7 +9,7 @@ use Rattle.price_bound.specs.Steps.{edges_in}
 use Rattle.price_bound.specs.Spreads.{IsMarked, variables_along}
 use Rattle.price_bound.proofs.Permitting.{no_step}
 use Rattle.price_bound.proofs.WayBack.{one-way, ended, next-step, goes-within}
-use Rattle.price_bound.proofs.Trails.{step-at, edge-at}
+use Rattle.price_bound.proofs.Trails.{step-at}
 use Rattle.price_bound.proofs.Marking.{none-marked, step-marked}
 use Rattle.price_bound.proofs.spread.mark_back.Goals as goal
 

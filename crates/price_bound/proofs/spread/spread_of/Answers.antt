@@ -1,9 +1,6 @@
-use Rattle.std.proofs.Common.{◌≡◌, ◌∙◌, ◌<◌, ◌≤◌, ◌+◌, ◌*◌, ◌^◌, lit<, ap, sym, subst, length, arith}
+use Rattle.std.proofs.Common.{arith}
 use Rattle.std.specs.Option.{option_copied}
-use Rattle.cutoff_program.specs.Flows.{variables_of}
-use Rattle.graph_search.specs.Graphs.{cost_of_all}
 use Rattle.graph_search.proofs.Places.{below-get}
-use Rattle.price_bound.specs.Steps.{edges_in}
 use Rattle.price_bound.proofs.Sizes.{costs-within}
 use Rattle.price_bound.proofs.spread.spread_of.Goals as goal
 

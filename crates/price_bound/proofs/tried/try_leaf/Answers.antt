@@ -1,4 +1,4 @@
-use Rattle.std.proofs.Common.{◌≤◌, ◌^◌, List, ℕ, sym, subst}
+use Rattle.std.proofs.Common.{◌≤◌, ◌^◌, sym, subst}
 use Rattle.std.specs.List.{AllByRecursion}
 use Rattle.price_bound.proofs.Flat.{all-small}
 use Rattle.price_bound.proofs.Steps.{all-index}

@@ -1,13 +1,13 @@
-use Rattle.std.proofs.Common.{◌≡◌, ◌∙◌, ◌++◌, List, ℕ, refl, sym, ap, subst, length, replicate, arith}
+use Rattle.std.proofs.Common.{◌≡◌, ◌∙◌, ℕ, refl, sym, ap, subst, arith}
 use Rattle.std.specs.Option.{option_copied}
 use Rattle.std.specs.Result.{IfOk}
 use Rattle.merlin_model.specs.declared.policy.Objective.{Objective}
 use Rattle.merlin_model.specs.declared.policy.Objective.TheVariants as objective
 use Rattle.cutoff_program.specs.declared.flow.Problem.{Problem}
 use Rattle.cutoff_program.specs.Flows.{program_at}
-use Rattle.price_candidates.specs.Leaves.{Lengths, flow_weights, leaf_from}
+use Rattle.price_candidates.specs.Leaves.{Lengths, leaf_from}
 use Rattle.price_candidates.specs.Tried.{lengths_by}
-use Rattle.price_bound.specs.Numbers.{AreNumbers, IsLeafTried}
+use Rattle.price_bound.specs.Numbers.{IsLeafTried}
 use Rattle.price_bound.proofs.Flat.{zeros-put}
 use Rattle.price_bound.proofs.tried.try_lengths.Goals as goal
 

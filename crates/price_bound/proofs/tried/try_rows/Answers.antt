@@ -1,4 +1,4 @@
-use Rattle.std.proofs.Common.{None, length, sym, ap, ◌∙◌, arith}
+use Rattle.std.proofs.Common.{None, arith}
 use Rattle.std.specs.Option.{option_copied}
 use Rattle.cutoff_program.proofs.Forms.{count-rows}
 use Rattle.price_bound.proofs.tried.try_rows.Goals as goal

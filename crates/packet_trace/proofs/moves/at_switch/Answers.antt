@@ -1,4 +1,4 @@
-use Rattle.std.proofs.Common.{◌∙◌, length, sym, ap, subst, refl}
+use Rattle.std.proofs.Common.{◌∙◌, None, length, sym, ap, subst, refl}
 use Rattle.std.proofs.lemmas.Option.{slice_get_read, slice_get_within}
 use Rattle.merlin_model.specs.Machine.{act, acting_rule, at_switch}
 use Rattle.merlin_model.proofs.ActsAt.{acts_only}
@@ -6,12 +6,12 @@ use Rattle.merlin_model.proofs.Traces.{Some-inj}
 use Rattle.packet_trace.specs.Fitting.{frame_of, NoneFits}
 use Rattle.packet_trace.specs.Steps.{seen}
 use Rattle.packet_trace.proofs.Best.{none_acts}
-use Rattle.packet_trace.proofs.step.at_switch.Goals as goal
+use Rattle.packet_trace.proofs.moves.at_switch.Goals as goal
 
 pub returns-in-None : goal.returns-in-None
 returns-in-None c =
     let none = subst (λ rules. NoneFits rules (frame_of c.args.frame.now)) c.as_slice-rules.ensures c.in-None.ensures.none in
-    ap (λ o. seen (at_switch c.args.net.now (frame_of c.args.frame.now) o)) (sym (none_acts c.args.config.now.rules (frame_of c.args.frame.now) none))
+    ap (λ o. seen None (at_switch c.args.net.now (frame_of c.args.frame.now) o)) (sym (none_acts c.args.config.now.rules (frame_of c.args.frame.now) none))
 
 pub returns-in-Some : goal.returns-in-Some
 returns-in-Some c =
@@ -22,5 +22,5 @@ returns-in-Some c =
     let acts = acts_only c.as_slice-rules.result.now (frame_of c.args.frame.now) c.in-Some.place found.0 found.1 in
     let actions = c.as_slice.ensures ∙ ap (λ rule. rule.actions) (sym c.index-rules-place.is ∙ sym same) in
     let rule = sym (ap (λ rules. acting_rule rules (frame_of c.args.frame.now)) c.as_slice-rules.ensures) ∙ acts in
-    c.act.ensures ∙ ap (λ actions. seen (act c.args.net.now (frame_of c.args.frame.now) c.args.frame.now.tag actions)) actions
-    ∙ ap (λ o. seen (at_switch c.args.net.now (frame_of c.args.frame.now) o)) (sym rule)
+    c.act.ensures ∙ ap (λ actions. seen None (act c.args.net.now (frame_of c.args.frame.now) c.args.frame.now.tag actions)) actions
+    ∙ ap (λ o. seen None (at_switch c.args.net.now (frame_of c.args.frame.now) o)) (sym rule)

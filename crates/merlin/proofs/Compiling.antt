@@ -12,7 +12,7 @@ use Rattle.policy_parser.proofs.Once.{one_reading}
 use Rattle.topology_rules.specs.Faults.{IsTopology, Refuses as IsRefusedTopology}
 use Rattle.topology_rules.specs.declared.fault.NetFault.{NetFault}
 use Rattle.topology_rules.specs.declared.fault.NetFault.TheVariants as net_faults
-use Rattle.merlin.specs.Compiler.{IsBuilt, AreRead, AreBuilt, AreUnbuilt, IsCompiledFrom, IsRefusal, IsEarlyFault, IsWantOfMemory}
+use Rattle.merlin.specs.Compiler.{IsCompilable, AreInputs, AreCompilable, AreUnbuilt, IsCompiledFrom, IsRefusal, IsEarlyFault, IsWantOfMemory}
 use Rattle.merlin.specs.Compile.{CompileForm, Compiles, IsCompileReply, compile_status}
 use Rattle.merlin.specs.declared.compiler.Compiled.{Compiled}
 use Rattle.merlin.specs.declared.compiler.EarlyFault.{EarlyFault}
@@ -55,26 +55,26 @@ is_want_net fault e = subst (λ f. IsWantOfMemory (early.Net f)) (sym e) tt
 
 module _ (known : Known) where
   -- two texts stand for one policy and one network
-  not_both : (p t : List ℕ) (net : Network) → AreBuilt p t net → AreUnbuilt p t → ⊥
+  not_both : (p t : List ℕ) (net : Network) → AreCompilable p t net → AreUnbuilt p t → ⊥
   not_both p t net is other =
       let policy : is.raw ≡ other.raw = same is.raw other.raw (one_reading p (Ok is.raw) (Ok other.raw) is.read.stands other.read.stands) in
       let network : net ≡ other.net = known.one t net other.net is.read.network other.read.network in
-      other.other (subst (λ n. IsBuilt other.raw n) network (subst (λ r. IsBuilt r net) policy is.built))
+      other.other (subst (λ n. IsCompilable other.raw n) network (subst (λ r. IsCompilable r net) policy is.built))
 
   -- what is refused stands for nothing that is built
   pub IsRefusal-not : (fault : EarlyFault) (policy topology : List ℕ) (net : Network)
-      → AreBuilt policy topology net → IsRefusal fault policy topology → ⊥
+      → AreCompilable policy topology net → IsRefusal fault policy topology → ⊥
   IsRefusal-not (early.Policy fault) policy topology net is (told, stops) = not_refused policy is.raw fault (λ e. told (is_want_policy fault e)) is.read.stands stops
   IsRefusal-not (early.Net fault) policy topology net is (told, stops) = told (is_want_net fault (known.apart topology net fault is.read.network stops.refused))
   IsRefusal-not early.Unbuilt policy topology net is (told, stops) = not_both policy topology net is stops
   IsRefusal-not early.OutOfMemory policy topology net is (told, stops) = told tt
 
-  pub Compiles-done : (form : CompileForm) (p t : List ℕ) (net : Network) → AreBuilt p t net
+  pub Compiles-done : (form : CompileForm) (p t : List ℕ) (net : Network) → AreCompilable p t net
       → (r : CompileReply) → Compiles form p t r → compile_status r ≡ status.Done
   Compiles-done form p t net is (Refused fault) h = absurd (IsRefusal-not fault p t net is h)
   Compiles-done form p t net is (Least compiled) h = refl
 
-  built : (p t : List ℕ) (form : CompileForm) (compiled : Compiled) → IsCompiledFrom p t form.objective compiled → AreBuilt p t compiled.net
+  built : (p t : List ℕ) (form : CompileForm) (compiled : Compiled) → IsCompiledFrom p t form.objective compiled → AreCompilable p t compiled.net
   built p t form compiled k = record { raw = k.input.raw; read = k.input.read; built = k.input.built }
 
   pub Compiles-one : (form : CompileForm) (p t : List ℕ) (r s : CompileReply) → Compiles form p t r

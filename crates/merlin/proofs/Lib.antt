@@ -6,6 +6,7 @@ pub mod Lines
 pub mod Unique
 pub mod Outcomes
 pub mod Compiling
+pub mod Faulty
 pub mod Refuting
 pub mod Runs
 pub mod Replies

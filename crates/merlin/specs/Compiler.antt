@@ -77,38 +77,38 @@ pub record IsPlainNetwork (net : Network) : Type 0 where
   pub no_middlebox : HasNoMiddlebox net
   pub no_function : net.functions ≡ []
 
-pub record IsBuilt (raw : Policy) (net : Network) : Type 0 where
+pub record IsCompilable (raw : Policy) (net : Network) : Type 0 where
   pub policy : IsSupported raw
   pub network : IsPlainNetwork net
 
 -- Two texts stand for a policy over names and for a network.
-pub record AreRead (policy topology : List ℕ) (raw : Policy) (net : Network) : Type 0 where
+pub record AreInputs (policy topology : List ℕ) (raw : Policy) (net : Network) : Type 0 where
   pub stands : IsPolicyText policy raw
   pub network : IsTopology topology net
 
 -- what two texts stand for is built
-pub record AreBuilt (policy topology : List ℕ) (net : Network) : Type 0 where
+pub record AreCompilable (policy topology : List ℕ) (net : Network) : Type 0 where
   pub raw : Policy
-  pub read : AreRead policy topology raw net
-  pub built : IsBuilt raw net
+  pub read : AreInputs policy topology raw net
+  pub built : IsCompilable raw net
 
 -- the topology stands for a network over which the policy is built
-abbrev pub IsBuiltOver : Policy → List ℕ → Network → Type 0
-IsBuiltOver raw topology net = IsTopology topology net × IsBuilt raw net
+abbrev pub IsCompilableOver : Policy → List ℕ → Network → Type 0
+IsCompilableOver raw topology net = IsTopology topology net × IsCompilable raw net
 
 -- what two texts stand for is not built yet
 pub record AreUnbuilt (policy topology : List ℕ) : Type 0 where
   pub raw : Policy
   pub net : Network
-  pub read : AreRead policy topology raw net
-  pub other : ¬ IsBuilt raw net
+  pub read : AreInputs policy topology raw net
+  pub other : ¬ IsCompilable raw net
 
 -- What two texts stand for: a network, and a policy over it.
 pub record IsInput (policy_text topology_text : List ℕ) (net : Network) (policy : NumberedPolicy)
     : Type 0 where
   pub raw : Policy
-  pub read : AreRead policy_text topology_text raw net
-  pub built : IsBuilt raw net
+  pub read : AreInputs policy_text topology_text raw net
+  pub built : IsCompilable raw net
   pub named : IsPolicyOf net raw policy
 
 -- The result is that of the policy over the network of the topology. It keeps the promise of a
@@ -135,7 +135,7 @@ pub record IsCompiledFrom (policy_text topology_text : List ℕ) (objective : Ob
 abbrev pub IsFaultOver : Policy → List ℕ → EarlyFault → Type 0
 IsFaultOver raw topology (early.Policy fault) = ⊥
 IsFaultOver raw topology (early.Net fault) = IsRefusedTopology fault topology
-IsFaultOver raw topology early.Unbuilt = (net : Network) × IsTopology topology net × (¬ IsBuilt raw net)
+IsFaultOver raw topology early.Unbuilt = (net : Network) × IsTopology topology net × (¬ IsCompilable raw net)
 IsFaultOver raw topology early.OutOfMemory = ⊤
 
 -- Why a topology is not read: the policy is read before.

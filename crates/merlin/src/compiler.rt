@@ -4,7 +4,7 @@ ghost use Rattle.config_text.specs.Lines.{IsConfigOver};
 ghost use Rattle.merlin_model.specs.Assignments.{value_of};
 ghost use Rattle.merlin_model.specs.Tests.{HasNoMiddlebox};
 ghost use Rattle.rules_model.specs.Plain.{any_path_policy};
-ghost use Rattle.merlin.specs.Compiler.{every_way, IsSupported, IsPlainNetwork, AreBuilt, IsBuiltOver};
+ghost use Rattle.merlin.specs.Compiler.{every_way, IsSupported, IsPlainNetwork, AreCompilable, IsCompilableOver};
 ghost use Rattle.merlin.specs.Compiler.{IsCompiledFrom, IsFaultOver, IsEarlyFault, IsWantOfMemory};
 ghost use Rattle.merlin.specs.declared.compiler.EarlyFault.TheVariants as early;
 
@@ -114,7 +114,7 @@ fn is_plain(net: &Topology) -> bool
 
 // The network of the topology, if the policy is built over it.
 fn read_over(alloc: Global, policy: &Policy, topology: &[u8]) -> Result<Topology, EarlyFault>
-    ensures ok { IfOk result (IsBuiltOver policy.now topology.now) }
+    ensures ok { IfOk result (IsCompilableOver policy.now topology.now) }
     ensures err { IfErr result (IsFaultOver policy.now topology.now) }
 {
     let net = read(alloc, topology)?;
@@ -127,7 +127,7 @@ fn read_over(alloc: Global, policy: &Policy, topology: &[u8]) -> Result<Topology
 
 // Reads a policy, and then the network that it is built over.
 fn read_built(alloc: Global, policy: &[u8], topology: &[u8]) -> Result<Topology, EarlyFault>
-    ensures ok { IfOk result (AreBuilt policy.now topology.now) }
+    ensures ok { IfOk result (AreCompilable policy.now topology.now) }
     ensures err { IfErr result (λ fault. IsEarlyFault fault policy.now topology.now) }
 {
     let policy = parse(alloc, policy)?;

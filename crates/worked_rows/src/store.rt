@@ -28,17 +28,28 @@ pub fn add(store: &mut Store, alloc: Global, name: &str, piece: &[u8]) -> Result
     }
 }
 
-// Adds the piece with a number in place of each `%`.
-fn add_numbered(text: &mut Lines, piece: &str, number: u64) {
-    for (place, part) in piece.split('%').enumerate() {
+// Adds the piece with a number in place of each `~`.
+fn add_left(text: &mut Lines, piece: &str, left: u64) {
+    for (place, part) in piece.split('~').enumerate() {
         if place > 0 {
-            text.add_number(number);
+            text.add_number(left);
         }
         text.add(part);
     }
 }
 
-/// Adds a piece and an end so many times to a file, each time with its number, from 0, in place of each `%` of the piece.
+// Adds the piece with a number in place of each `%`, and how many there are from it on in place of each `~`.
+fn add_numbered(text: &mut Lines, piece: &str, number: u64, left: u64) {
+    for (place, part) in piece.split('%').enumerate() {
+        if place > 0 {
+            text.add_number(number);
+        }
+        add_left(text, part, left);
+    }
+}
+
+/// Adds a piece and an end so many times to a file, each time with its number, from 0, in place of each `%` of the piece, and in place of each `~` how
+/// many there are from it on: the last has 1.
 pub fn add_times(
     store: &mut Store,
     alloc: Global,
@@ -49,7 +60,7 @@ pub fn add_times(
 ) -> Result<(), OutOfMemory> {
     let mut text = Lines::new(alloc);
     for number in 0..times {
-        add_numbered(&mut text, piece, number);
+        add_numbered(&mut text, piece, number, times - number);
         text.add(end);
     }
     add(store, alloc, name, text.text().as_bytes())

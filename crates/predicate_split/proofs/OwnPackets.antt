@@ -1,5 +1,5 @@
 -- A cell's own packet is the least for which the cell is the first that fits.
-use Rattle.std.proofs.Common.{Option, None, Some, ◌≡◌, ◌≢◌, ◌≤◌, ◌<◌, ◌⊎◌, ◌^◌, ℕ, inl, inr, Bool, true, false, cond, List, [], ◌∷◌, find, refl, sym, ◌∙◌, ap, ap₂, subst, arith}
+use Rattle.std.proofs.Common.{Option, Some, ◌≡◌, ◌≢◌, ◌≤◌, ◌<◌, ◌⊎◌, ◌^◌, ℕ, inl, inr, Bool, true, false, cond, List, [], ◌∷◌, find, refl, sym, ◌∙◌, ap, ap₂, subst, arith}
 use Rattle.std.specs.List.{AllByRecursion, flat_map}
 use Rattle.merlin_model.specs.declared.network.HostAddress.{HostAddress}
 use Rattle.merlin_model.specs.declared.policy.Field.{Field}
@@ -8,7 +8,6 @@ use Rattle.merlin_model.specs.declared.policy.Pred.{Pred}
 use Rattle.merlin_model.specs.Networks.{Pairwise}
 use Rattle.merlin_model.specs.Packets.{Packet, IsPacket, IsLeastPacket, fields_of, source_of, destination_of}
 use Rattle.merlin_model.specs.Predicates.{IsPred}
-use Rattle.merlin_model.proofs.Members.{In}
 use Rattle.packet_model.specs.Fields.{has_ports}
 use Rattle.predicate_logic.specs.Residues.{residues}
 use Rattle.predicate_logic.specs.Mentions.{mentions, ascending}

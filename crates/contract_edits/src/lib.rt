@@ -8,4 +8,5 @@ pub mod automata;
 pub mod configs;
 pub mod files;
 pub mod policies;
+pub mod splits;
 pub mod topologies;

@@ -38,17 +38,18 @@ fn add_numbered(text: &mut Lines, piece: &str, number: u64) {
     }
 }
 
-/// Adds a piece and an end so many times to a file, each time with its number, from 0, in place of each `%` of the piece.
+/// Adds a piece and an end to a file for each number from the first to that before the last, which stands in place of each `%` of the piece.
 pub fn add_times(
     store: &mut Store,
     alloc: Global,
     name: &str,
     piece: &str,
     end: &str,
-    times: u64,
+    first: u64,
+    past: u64,
 ) -> Result<(), OutOfMemory> {
     let mut text = Lines::new(alloc);
-    for number in 0..times {
+    for number in first..past {
         add_numbered(&mut text, piece, number);
         text.add(end);
     }

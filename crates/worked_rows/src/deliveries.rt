@@ -69,6 +69,11 @@ fn follow(alloc: Global, compiled: &Compiled, host: usize, packet: Packet, out: 
         Ok(trace) => describe(alloc, out, &compiled.net, &trace),
         Err(_) => out.cut(),
     }
+    let Tracer {
+        net: _net,
+        config: _config,
+        apply: _apply,
+    } = tracer;
 }
 
 fn follow_from(alloc: Global, compiled: &Compiled, words: &str, out: &mut Lines) {

@@ -5,9 +5,12 @@ mod automata;
 mod checked;
 mod checking;
 mod fault;
+mod guarantees;
 mod listing;
+mod pairs;
 mod rules;
 
 pub use checked::Checked;
 pub use checking::check;
-pub use fault::CheckFault;
+pub use fault::{CheckFault, EndsFault};
+pub use guarantees::{MAX_GUARANTEES, ends};

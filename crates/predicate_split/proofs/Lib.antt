@@ -19,3 +19,4 @@ pub mod FirstCells
 pub mod Lefts
 pub mod CellCounts
 pub mod CellLists
+pub mod Meeting

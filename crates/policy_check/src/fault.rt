@@ -133,3 +133,11 @@ impl From<NoMemory> for EndsFault {
         EndsFault::OutOfMemory
     }
 }
+
+impl<T: Drop> From<AllocFailed<T>> for EndsFault {
+    ghost from_gives = { λ _ gives. gives ≡ ends_fault.OutOfMemory };
+
+    fn from(_: AllocFailed<T>) -> Self {
+        EndsFault::OutOfMemory
+    }
+}

@@ -1,5 +1,7 @@
 -- Pairs of hosts between which a predicate holds of some packet.
-use Rattle.std.proofs.Common.{◌≡◌, ◌≢◌, ◌<◌, ◌≤◌, ◌⊎◌, ◌↔◌, inl, inr, ℕ, suc, Bool, true, false, IsTrue, ◌+◌, length, Option, None, Some, option_map, IfSome, IfNone, slice_get, refl, sym, ◌∙◌, ap, subst, arith, ltb, Decides-ltb}
+use Rattle.std.proofs.Common.{◌≡◌, ◌≢◌, ◌==◌, ◌<◌, ◌≤◌, ◌⊎◌, ◌↔◌, inl, inr, ℕ, Bool, true, false, IsTrue, ◌+◌, length, Option, None, Some, option_map, slice_get, refl, sym, ◌∙◌, ap, subst, arith, ltb}
+use Rattle.std.proofs.lemmas.Bool.{ltb-false}
+use Rattle.std.proofs.lemmas.Bool.Decides.{Decides-ltb}
 use Rattle.std.proofs.lemmas.Option.{slice_get_within}
 use Rattle.merlin_model.specs.declared.network.HostAddress.{HostAddress}
 use Rattle.merlin_model.specs.declared.network.Location.{Location}
@@ -7,9 +9,8 @@ use Rattle.merlin_model.specs.declared.policy.Pred.{Pred}
 use Rattle.merlin_model.specs.Packets.{source_of, destination_of}
 use Rattle.merlin_model.specs.Networks.{Network, address_at, address_of}
 use Rattle.predicate_split.specs.Between.{HoldsBetween}
-use Rattle.policy_check.specs.declared.pairs.Pairs.{Pairs}
 use Rattle.policy_check.specs.declared.pairs.Pairs.TheVariants.{NoPair, OnePair, MorePairs}
-use Rattle.policy_check.specs.Traffic.{IsPairBefore, HasPacket, HasNoPairFrom, IsNextPair, IsNextDestination, IsOnlyPair, AreFirstPairs, ArePairs}
+use Rattle.policy_check.specs.Traffic.{IsPairBefore, HasPacket, HasNoPairFrom, IsNextPair, IsNextDestination, ArePairs}
 
 within : (net : Network) (loc : ℕ) (a : HostAddress) → address_of net loc ≡ Some a → loc < length net.locations
 within net loc a e = by (slice_get net.locations loc) refl e
@@ -81,7 +82,7 @@ module _ (net : Network) (pred : Pred) where
     where
       by : (b : Bool) → ltb dst from ≡ b → (dst < from) ⊎ (from ≤ dst)
       by true e = inl ((Decides-ltb dst from).0 e)
-      by false e = inr (omega (arith, e))
+      by false e = inr (ltb-false dst from e)
 
   pub none-to-more : (src from end : ℕ) (found : Bool) → HasNoneTo src from end → found ≡ false → IsTrue found ↔ HasPacket net pred (src, end) → HasNoneTo src from (end + 1)
   none-to-more src from end found before none told dst h = by (before dst h)
@@ -115,7 +116,7 @@ module _ (net : Network) (pred : Pred) where
     where
       by : (b : Bool) → ltb pair.0 from.0 ≡ b → IsPairBefore pair from ⊎ (from.0 ≤ pair.0)
       by true e = inl (inl ((Decides-ltb pair.0 from.0).0 e))
-      by false e = inr (omega (arith, e))
+      by false e = inr (ltb-false pair.0 from.0 e)
 
   -- the number from which destinations of this source count
   abbrev pub least_of_source : ℕ × ℕ → ℕ → ℕ → Type 0

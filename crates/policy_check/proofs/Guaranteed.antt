@@ -1,16 +1,16 @@
 -- The guaranteed statements of a policy, the traffic of each, and their ends.
-use Rattle.std.proofs.Common.{◌≡◌, ◌≢◌, ◌<◌, ◌≤◌, ◌+◌, ◌⊎◌, ◌↔◌, inl, inr, ℕ, zero, suc, Bool, true, false, cond, List, [], ◌∷◌, ◌++◌, length, take, map, get_or, Option, None, Some, slice_get, Contains, refl, sym, ◌∙◌, ap, subst, arith, ltb, ltb-false, Decides-ltb}
+use Rattle.std.proofs.Common.{◌≡◌, ◌<◌, ◌≤◌, ◌+◌, inl, inr, ℕ, zero, suc, Bool, true, false, cond, List, [], ◌∷◌, length, take, map, get_or, Option, None, Some, slice_get, Contains, refl, sym, ◌∙◌, ap, subst, arith, ltb}
+use Rattle.std.proofs.lemmas.Bool.{ltb-false}
+use Rattle.std.proofs.lemmas.Bool.Decides.{Decides-ltb}
 use Rattle.std.specs.List.{AllByRecursion}
 use Rattle.std.specs.List.Sorted.{IsStrictlyIncreasing}
 use Rattle.std.specs.Option.{option_map_or}
-use Rattle.std.proofs.lemmas.List.{length-map}
-use Rattle.std.proofs.lemmas.Option.{slice_get_within}
-use Rattle.merlin_model.specs.declared.policy.Pred.{Pred}
+use Rattle.std.proofs.lemmas.Option.{slice_get_within, slice_get-get_or}
 use Rattle.merlin_model.specs.declared.policy.Ends.{Ends}
 use Rattle.merlin_model.specs.Packets.{Packet}
 use Rattle.merlin_model.specs.Predicates.{holds}
 use Rattle.merlin_model.specs.Networks.{Network, Pairwise}
-use Rattle.merlin_model.specs.Policies.{Policy, Statement, AreDisjoint, match_among, match_of}
+use Rattle.merlin_model.specs.Policies.{Policy, Statement, AreDisjoint, match_among}
 use Rattle.merlin_model.specs.Rates.{min_of, IsGuaranteed, greatest_of, min_shares}
 use Rattle.merlin_model.specs.Assignments.{HasTraffic, AreTheEnds, AreAllEnds}
 use Rattle.merlin_model.proofs.Members.{In, in_from, in_to, in_map, all_in}
@@ -21,9 +21,9 @@ use Rattle.localise.specs.Localised.{min_for, localised}
 use Rattle.policy_check.specs.declared.fault.EndsFault.{EndsFault}
 use Rattle.policy_check.specs.declared.fault.EndsFault.TheVariants.{TooManyGuarantees, NoEnds, ManyEnds, OutOfMemory}
 use Rattle.policy_check.specs.declared.guarantees.TheConstants.{MAX_GUARANTEES}
-use Rattle.policy_check.specs.declared.pairs.Pairs.TheVariants.{NoPair, OnePair, MorePairs}
-use Rattle.policy_check.specs.Traffic.{HasPacket, IsOnlyPair, AreFirstPairs, ArePairs, IsPairBefore}
-use Rattle.policy_check.specs.Ends.{AreGuaranteed, HasFewGuarantees, AreEndsOf, HasEnds, HasNoTraffic, HasFirstPairs, BreaksEndsAt, BreaksEnds, IsFirstWithoutEnds, places_above}
+use Rattle.policy_check.specs.declared.pairs.Pairs.TheVariants.{NoPair, MorePairs}
+use Rattle.policy_check.specs.Traffic.{HasPacket, IsOnlyPair, ArePairs}
+use Rattle.policy_check.specs.Ends.{AreGuaranteed, AreEndsOf, HasEnds, BreaksEndsAt, BreaksEnds, IsFirstWithoutEnds, places_above}
 
 -- Places of rates above 0.
 
@@ -66,25 +66,25 @@ record IsPlaceAbove (n : ℕ) (rates : List ℕ) (i : ℕ) : Type 0 where
 
 places-of : (n : ℕ) (rates : List ℕ) (i : ℕ) → In i (places_above n rates) → IsPlaceAbove n rates i
 places-of n [] i m = absurd m
-places-of n (rate ∷ rest) i m = by (ltb 0 rate) refl m
+places-of n (rate ∷ rest) i m = by (places-of (suc n) rest i) (ltb 0 rate) refl m
   where
-    later : In i (places_above (suc n) rest) → IsPlaceAbove n (rate ∷ rest) i
-    later j = let h = places-of (suc n) rest i j in let e = h.is in record { place = suc h.place; rate = h.rate; is = omega (arith, e); at = h.at; above = h.above }
+    later : (In i (places_above (suc n) rest) → IsPlaceAbove (suc n) rest i) → In i (places_above (suc n) rest) → IsPlaceAbove n (rate ∷ rest) i
+    later rec j = let h = rec j in let e = h.is in record { place = suc h.place; rate = h.rate; is = omega (arith, e); at = h.at; above = h.above }
 
-    by : (b : Bool) → ltb 0 rate ≡ b → In i (cond b (n ∷ places_above (suc n) rest) (places_above (suc n) rest)) → IsPlaceAbove n (rate ∷ rest) i
-    by true e (inl same) = record { place = 0; rate = rate; is = omega (arith, same); at = refl; above = (Decides-ltb 0 rate).0 e }
-    by true e (inr j) = later j
-    by false e j = later j
+    by : (In i (places_above (suc n) rest) → IsPlaceAbove (suc n) rest i) → (b : Bool) → ltb 0 rate ≡ b → In i (cond b (n ∷ places_above (suc n) rest) (places_above (suc n) rest)) → IsPlaceAbove n (rate ∷ rest) i
+    by rec true e (inl same) = record { place = 0; rate = rate; is = omega (arith, same); at = refl; above = (Decides-ltb 0 rate).0 e }
+    by rec true e (inr j) = later rec j
+    by rec false e j = later rec j
 
 places-back : (n : ℕ) (rates : List ℕ) (i : ℕ) → IsPlaceAbove n rates i → In i (places_above n rates)
 places-back n [] i h = let at = h.at in absurd (none h.rate at)
   where
     none : (r : ℕ) → None ≡ Some r → ⊥
     none r e = cc
-places-back n (rate ∷ rest) i h = by (ltb 0 rate) refl h.place refl
+places-back n (rate ∷ rest) i h = by (places-back (suc n) rest i) (ltb 0 rate) refl h.place refl
   where
-    later : (k : ℕ) → h.place ≡ suc k → In i (places_above (suc n) rest)
-    later k e = let is = h.is in places-back (suc n) rest i (record { place = k; rate = h.rate; is = omega (arith, e, is); at = ap (slice_get (rate ∷ rest)) (sym e) ∙ h.at; above = h.above })
+    later : (IsPlaceAbove (suc n) rest i → In i (places_above (suc n) rest)) → (k : ℕ) → h.place ≡ suc k → In i (places_above (suc n) rest)
+    later rec k e = let is = h.is in rec (record { place = k; rate = h.rate; is = omega (arith, e, is); at = ap (slice_get (rate ∷ rest)) (sym e) ∙ h.at; above = h.above })
 
     here : h.place ≡ zero → rate ≡ h.rate
     here e = one (ap (slice_get (rate ∷ rest)) (sym e) ∙ h.at)
@@ -92,11 +92,11 @@ places-back n (rate ∷ rest) i h = by (ltb 0 rate) refl h.place refl
         one : Some rate ≡ Some h.rate → rate ≡ h.rate
         one e = cc
 
-    by : (b : Bool) → ltb 0 rate ≡ b → (k : ℕ) → h.place ≡ k → In i (cond b (n ∷ places_above (suc n) rest) (places_above (suc n) rest))
-    by true e zero f = inl (let is = h.is in omega (arith, is, f))
-    by true e (suc k) f = inr (later k f)
-    by false e zero f = let under = ltb-false 0 rate e in let same = here f in let above = h.above in absurd (omega (arith, under, same, above))
-    by false e (suc k) f = later k f
+    by : (IsPlaceAbove (suc n) rest i → In i (places_above (suc n) rest)) → (b : Bool) → ltb 0 rate ≡ b → (k : ℕ) → h.place ≡ k → In i (cond b (n ∷ places_above (suc n) rest) (places_above (suc n) rest))
+    by rec true e zero f = inl (let is = h.is in omega (arith, is, f))
+    by rec true e (suc k) f = inr (later rec k f)
+    by rec false e zero f = let under = ltb-false 0 rate e in let same = here f in let above = h.above in absurd (omega (arith, under, same, above))
+    by rec false e (suc k) f = later rec k f
 
 -- Guaranteed statements.
 
@@ -163,11 +163,11 @@ match-holds (t ∷ ss) p zero s m e = by (holds t.pred p) refl m
     by : (b : Bool) → holds t.pred p ≡ b → cond b 0 (1 + match_among ss p) ≡ 0 → holds s.pred p ≡ true
     by true h m = subst (λ (u : Statement). holds u.pred p ≡ true) same h
     by false h m = absurd (omega (arith, m))
-match-holds (t ∷ ss) p (suc i) s m e = by (holds t.pred p) refl m
+match-holds (t ∷ ss) p (suc i) s m e = by (λ n. match-holds ss p i s n e) (holds t.pred p) refl m
   where
-    by : (b : Bool) → holds t.pred p ≡ b → cond b 0 (1 + match_among ss p) ≡ suc i → holds s.pred p ≡ true
-    by true h m = absurd (omega (arith, m))
-    by false h m = match-holds ss p i s (let n : match_among ss p ≡ i = omega (arith, m) in n) e
+    by : (match_among ss p ≡ i → holds s.pred p ≡ true) → (b : Bool) → holds t.pred p ≡ b → cond b 0 (1 + match_among ss p) ≡ suc i → holds s.pred p ≡ true
+    by rec true h m = absurd (omega (arith, m))
+    by rec false h m = rec (omega (arith, m))
 
 module _ (net : Network) (policy : Policy) (disjoint : AreDisjoint policy) (i : ℕ) (s : Statement) (at : slice_get policy.statements i ≡ Some s) where
   packet-of : (a b : ℕ) → HasTraffic net policy i a b → HasPacket net s.pred (a, b)
@@ -205,11 +205,23 @@ module _ (net : Network) (policy : Policy) (disjoint : AreDisjoint policy) (i : 
     },
   )
 
+-- What stands at a place.
+
+pub at-index : {X : Type 0} (xs ys : List X) (i : ℕ) (x y : X) → xs ≡ ys → slice_get ys i ≡ Some y → x ≡ get_or xs i x → x ≡ y
+at-index xs ys i x y same at is =
+    let there : slice_get xs i ≡ Some y = ap (λ l. slice_get l i) same ∙ at in
+    is ∙ same-in (slice_get xs i) (get_or xs i x) y (slice_get-get_or xs i x (slice_get_within xs i y there)) there
+
+at-in : (xs : List ℕ) (i x : ℕ) → slice_get xs i ≡ Some x → In x xs
+at-in [] i x e = cc
+at-in (y ∷ xs) zero x e = let same : y ≡ x = cc in inl (sym same)
+at-in (y ∷ xs) (suc i) x e = inr (at-in xs i x e)
+
 -- All ends.
 
 module _ (net : Network) (policy : Policy) (places : List ℕ) (guaranteed : AreGuaranteed policy places) where
   ends-at : (i : ℕ) (found : List Ends) → AllByRecursion (AreTheEnds net policy) found → In i (map (λ e. e.statement) found) → HasEnds net policy i
-  ends-at i found all m = let e = in_map (λ (e : Ends). e.statement) found i m in (e.0, (sym e.2.1, all_in (AreTheEnds net policy) found e.0 all e.2.0))
+  ends-at i found all m = let e = in_map (λ (e : Ends). e.statement) found i m in (e.0, (sym e.2, all_in (AreTheEnds net policy) found e.0 all e.1))
 
   pub all-ends : (found : List Ends) → map (λ e. e.statement) found ≡ places → AllByRecursion (AreTheEnds net policy) found → AreAllEnds net policy found
   all-ends found are all = record {
@@ -229,9 +241,12 @@ module _ (net : Network) (policy : Policy) (places : List ℕ) (guaranteed : Are
   before-place (y ∷ xs) (suc k) x i up at (inr m) less = inr (before-place xs k x i up.1 at m less)
 
   pub first-at-fault : (found : List Ends) (k statement : ℕ) (fault : EndsFault) → length places ≤ MAX_GUARANTEES → map (λ e. e.statement) found ≡ take k places → AllByRecursion (AreTheEnds net policy) found →
-      slice_get places k ≡ Some statement → IsGuaranteed policy statement → BreaksEndsAt net policy statement fault → BreaksEnds net policy fault
-  first-at-fault found k statement fault few are all at g breaks = by fault breaks
+      slice_get places k ≡ Some statement → BreaksEndsAt net policy statement fault → BreaksEnds net policy fault
+  first-at-fault found k statement fault few are all at breaks = by fault breaks
     where
+      g : IsGuaranteed policy statement
+      g = (guaranteed.exactly statement).0 (in_to places statement (at-in places k statement at))
+
       whole : (f : EndsFault) → BreaksEndsAt net policy statement f → IsFirstWithoutEnds net policy f
       whole f b = record {
         few = (places, guaranteed, few);

@@ -1,5 +1,5 @@
 -- A policy that was checked, with its automata, and what is so of it.
-use Rattle.std.specs.Prelude.{ℕ, ◌≡◌, ◌≤◌, ◌<◌, List, length, true, Contains, Option, Ok, Some, slice_get, option_and_then, sum_by}
+use Rattle.std.specs.Prelude.{ℕ, ◌≡◌, ◌≤◌, List, true, Contains, Option, Ok, Some, slice_get, option_and_then, sum_by}
 use Rattle.std.specs.List.{AllByRecursion}
 use Rattle.merlin_model.specs.declared.policy.Path.{Path}
 use Rattle.merlin_model.specs.declared.policy.Symbol.{Symbol}
@@ -9,7 +9,6 @@ use Rattle.merlin_model.specs.Predicates.{IsPred}
 use Rattle.merlin_model.specs.Policies.{Policy, AreDisjoint, IsTotal, paths_of}
 use Rattle.merlin_model.specs.Rates.{is_max, ids_of, constant_of_part, HasRoomForGuarantees}
 use Rattle.rate_formula.specs.Usage.{ids_in}
-use Rattle.localise.specs.Faults.{faults}
 use Rattle.path_automaton.specs.Automata.{AutomatonTables, AcceptsWordsOf}
 use Rattle.path_automaton.specs.Built.{IsBuilt}
 use Rattle.policy_expansion.specs.declared.policy.Policy.{Policy as NamedPolicy}

@@ -5,7 +5,7 @@ use Rattle.merlin_model.specs.declared.policy.Ends.{Ends}
 use Rattle.merlin_model.specs.Networks.{Network}
 use Rattle.merlin_model.specs.Policies.{Policy}
 use Rattle.merlin_model.specs.Rates.{IsGuaranteed}
-use Rattle.merlin_model.specs.Assignments.{HasTraffic, AreTheEnds, AreAllEnds}
+use Rattle.merlin_model.specs.Assignments.{HasTraffic, AreTheEnds}
 use Rattle.rate_formula.specs.Usage.{ids_in}
 use Rattle.policy_check.specs.declared.guarantees.TheConstants.{MAX_GUARANTEES}
 use Rattle.policy_check.specs.declared.fault.EndsFault.{EndsFault}

@@ -94,6 +94,7 @@ pub(crate) fn pairs_of(alloc: Global, pred: &Pred, net: &Topology) -> Result<Pai
     let Some(first) = next_pair(alloc, pred, net, (0, 0))? else {
         return Ok(Pairs::NoPair);
     };
+    let _ = net.locations();
     match next_pair(alloc, pred, net, (first.0, first.1 + 1))? {
         None => Ok(Pairs::OnePair(first)),
         Some(second) => Ok(Pairs::MorePairs(first, second)),

@@ -21,7 +21,6 @@ pub starts : (src dst : HostAddress) (pred left : Pred) (z : Packet) → IsPred 
 unfolding left_between
 starts src dst pred left z well is at = subst (λ (p : Packet). AreFresh other_fields p.proto (left ∷ [])) (sym at) (subst (λ l. AreFresh other_fields 0 (l ∷ [])) (sym is) (left-fresh src dst (pred ∷ []) (well, tt)))
 
-
 false_true : false ≡ true → ⊥
 false_true e = cc
 

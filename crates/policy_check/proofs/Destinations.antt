@@ -12,8 +12,8 @@ use Rattle.predicate_split.specs.Between.{HoldsBetween}
 use Rattle.policy_check.specs.declared.pairs.Pairs.TheVariants.{NoPair, OnePair, MorePairs}
 use Rattle.policy_check.specs.Traffic.{IsPairBefore, HasPacket, HasNoPairFrom, IsNextPair, IsNextDestination, ArePairs}
 
-within : (net : Network) (loc : ℕ) (a : HostAddress) → address_of net loc ≡ Some a → loc < length net.locations
-within net loc a e = by (slice_get net.locations loc) refl e
+pub host-within : (net : Network) (loc : ℕ) (a : HostAddress) → address_of net loc ≡ Some a → loc < length net.locations
+host-within net loc a e = by (slice_get net.locations loc) refl e
   where
     by : (o : Option Location) → slice_get net.locations loc ≡ o → address_at (option_map (λ l. l.kind) o) ≡ Some a → loc < length net.locations
     by None at e = cc
@@ -30,10 +30,10 @@ not_true e = cc
 
 module _ (net : Network) (pred : Pred) where
   pub source-within : (src dst : ℕ) → HasPacket net pred (src, dst) → src < length net.locations
-  source-within src dst h = within net src (source_of h.packet) h.proper.source
+  source-within src dst h = host-within net src (source_of h.packet) h.proper.source
 
   pub destination-within : (src dst : ℕ) → HasPacket net pred (src, dst) → dst < length net.locations
-  destination-within src dst h = within net dst (destination_of h.packet) h.proper.destination
+  destination-within src dst h = host-within net dst (destination_of h.packet) h.proper.destination
 
   pub no-pair-at-one : (src dst : ℕ) → src ≡ dst → IsTrue false ↔ HasPacket net pred (src, dst)
   no-pair-at-one src dst same = (λ t. absurd (not_true t), λ h. absurd (h.proper.differ same))

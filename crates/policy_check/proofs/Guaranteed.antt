@@ -153,7 +153,7 @@ module _ (policy : Policy) where
 
 -- Traffic of a statement.
 
-match-holds : (ss : List Statement) (p : Packet) (i : ℕ) (s : Statement) → match_among ss p ≡ i → slice_get ss i ≡ Some s → holds s.pred p ≡ true
+pub match-holds : (ss : List Statement) (p : Packet) (i : ℕ) (s : Statement) → match_among ss p ≡ i → slice_get ss i ≡ Some s → holds s.pred p ≡ true
 match-holds [] p i s m e = cc
 match-holds (t ∷ ss) p zero s m e = by (holds t.pred p) refl m
   where

@@ -6,3 +6,4 @@ pub mod Sound
 pub mod Keeping
 pub mod Destinations
 pub mod Guaranteed
+pub mod Matched

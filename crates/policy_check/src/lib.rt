@@ -6,6 +6,7 @@ mod checked;
 mod checking;
 mod fault;
 mod guarantees;
+pub mod laws;
 mod listing;
 mod pairs;
 mod rules;

@@ -13,7 +13,7 @@ use Rattle.packet_trace.specs.declared.moves.Left.{Left}
 use Rattle.packet_trace.specs.declared.moves.Move.TheVariants.{Leaves, Arrives, Drops}
 use Rattle.packet_trace.specs.declared.trace.Visit as trace
 use Rattle.packet_trace.specs.declared.trace.End.TheVariants as end
-use Rattle.packet_trace.specs.Steps.{functions_at, visit_of, IsMove, IsLonger}
+use Rattle.packet_trace.specs.Steps.{functions_by_line, visit_of, IsMove, IsLonger}
 use Rattle.packet_trace.specs.Trace.{record_of, IsTraceOf}
 use Rattle.packet_trace.proofs.LinkedBoth.{leads_to}
 
@@ -36,7 +36,7 @@ leaves_for net config lawful f to port tag left (link, goes, loc, in_port) =
 module _ (net : Network) (config : Config) (behaviour : Behaviour) where
   -- a frame that leaves, and whose packet the functions that run change, hops
   pub hop_by : (f : Frame) (to port : ℕ) (tag : _) (left : Left) (functions : List ℕ) (packet : Packet) → IsMove net config f (Leaves to port tag left) →
-      functions ≡ functions_at config.processes left.process → MayMakeInTurn net behaviour functions f.packet packet →
+      functions ≡ functions_by_line config.processes left.process → MayMakeInTurn net behaviour functions f.packet packet →
       HopsBy net config behaviour f (visit_of config f.loc left) (frame to port tag packet)
   hop_by f to port tag left functions packet (link, goes, loc, in_port) ran made =
       record { link = link; goes = goes; loc = loc; port = in_port; packet = subst (λ fs. MayMakeInTurn net behaviour fs f.packet packet) ran made }
@@ -50,7 +50,7 @@ module _ (net : Network) (config : Config) (behaviour : Behaviour) where
   one_more (first ∷ visits) f g h visit (x, one, more) hop = (x, one, one_more visits x g h visit more hop)
 
   -- one hop more, and its record
-  pub went_on : (visits more : List trace.Visit) (functions : List ℕ) (f g h : Frame) (left : Left) → functions ≡ functions_at config.processes left.process →
+  pub went_on : (visits more : List trace.Visit) (functions : List ℕ) (f g h : Frame) (left : Left) → functions ≡ functions_by_line config.processes left.process →
       IsLonger visits g.loc functions left more → ReachesBy net config behaviour f (map record_of visits) g →
       HopsBy net config behaviour g (visit_of config g.loc left) h → ReachesBy net config behaviour f (map record_of more) h
   went_on visits more functions f g h left ran longer reaches hop =

@@ -40,14 +40,14 @@ abbrev pub functions_of_line : Option Process → List ℕ
 functions_of_line None = []
 functions_of_line (Some line) = line.functions
 
-abbrev pub functions_at : List Process → Option ℕ → List ℕ
-functions_at lines None = []
-functions_at lines (Some place) = functions_of_line (slice_get lines place)
+abbrev pub functions_by_line : List Process → Option ℕ → List ℕ
+functions_by_line lines None = []
+functions_by_line lines (Some place) = functions_of_line (slice_get lines place)
 
 -- what is recorded of a location that is left
 abbrev pub visit_of : Config → ℕ → Left → machine.Visit
 visit_of config loc left =
-    record { loc = loc; functions = functions_at config.processes left.process; queue = left.queue; class = left.class }
+    record { loc = loc; functions = functions_by_line config.processes left.process; queue = left.queue; class = left.class }
 
 -- the records with one more, of a location that is left
 abbrev pub IsLonger : List Visit → ℕ → List ℕ → Left → List Visit → Type 0

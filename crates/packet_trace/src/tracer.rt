@@ -6,7 +6,7 @@ ghost use Rattle.merlin_model.specs.Functions.{MayMake, MayMakeInTurn};
 ghost use Rattle.merlin_model.specs.Machine.{start};
 ghost use Rattle.packet_trace.specs.Behaviours.{behaviour_by};
 ghost use Rattle.packet_trace.specs.Fitting.{frame};
-ghost use Rattle.packet_trace.specs.Steps.{functions_at, IsStepBy, IsLonger};
+ghost use Rattle.packet_trace.specs.Steps.{functions_by_line, IsStepBy, IsLonger};
 ghost use Rattle.packet_trace.specs.Trace.{IsTrace};
 
 use crate::frame::Frame;
@@ -45,8 +45,8 @@ pub enum Next {
 }
 
 // The functions of the `process` line at a place, if one acts.
-fn functions_at(lines: &[Process], process: Option<usize>) -> &[usize]
-    ensures { result.now ≡ functions_at lines.now process }
+fn functions_by_line(lines: &[Process], process: Option<usize>) -> &[usize]
+    ensures { result.now ≡ functions_by_line lines.now process }
 {
     let Some(place) = process else {
         return &[];
@@ -127,7 +127,8 @@ impl<'a, A: Fn(&FnDecl, Packet) -> Packet> Tracer<'a, A> {
         requires callable { A.IsAlwaysCallable self.now.apply }
         requires located { loc < length self.now.net.now.locations }
         ensures { let behaviour = behaviour_by (A.post self.now.apply) (λ d. d.now) in
-            IsStepBy self.now.net.now self.now.config.now behaviour (frame loc port tag packet) result }
+            IsStepBy self.now.net.now self.now.config.now behaviour
+            (frame loc port tag packet) result }
     {
         let frame = Frame {
             loc,
@@ -144,7 +145,7 @@ impl<'a, A: Fn(&FnDecl, Packet) -> Packet> Tracer<'a, A> {
                 tag,
                 left,
             } => {
-                let functions = functions_at(self.config.processes.as_slice(), left.process);
+                let functions = functions_by_line(self.config.processes.as_slice(), left.process);
                 Next::Hop {
                     loc: to,
                     port,
@@ -160,7 +161,8 @@ impl<'a, A: Fn(&FnDecl, Packet) -> Packet> Tracer<'a, A> {
         requires callable { A.IsAlwaysCallable self.now.apply }
         requires host { IsHost self.now.net.now host }
         ensures { let behaviour = behaviour_by (A.post self.now.apply) (λ d. d.now) in
-            IfOk result (IsTrace self.now.net.now self.now.config.now behaviour (start host packet)) }
+            IfOk result (IsTrace self.now.net.now self.now.config.now behaviour
+            (start host packet)) }
     {
         // The network is lawful, so that each hop leads to a location.
         let _locations = self.net.locations();
@@ -187,7 +189,10 @@ impl<'a, A: Fn(&FnDecl, Packet) -> Packet> Tracer<'a, A> {
                     tag,
                     left,
                 } => {
-                    let functions = functions_at(self.config.processes.as_slice(), left.process);
+                    let functions = functions_by_line(
+                        self.config.processes.as_slice(),
+                        left.process,
+                    );
                     push_visit(alloc, &mut visits, frame.loc, functions, left)?;
                     frame = Frame {
                         loc: to,

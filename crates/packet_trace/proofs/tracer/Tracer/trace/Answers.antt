@@ -3,7 +3,7 @@ use Rattle.std.proofs.Common.{◌≡◌, ◌<◌, ◌≤◌, ◌+◌, ◌∙◌,
 use Rattle.merlin_model.specs.Machine.{start}
 use Rattle.packet_trace.specs.declared.trace.TheConstants.{MAX_HOPS}
 use Rattle.packet_trace.specs.Fitting.{frame, frame_of}
-use Rattle.packet_trace.specs.Steps.{functions_at}
+use Rattle.packet_trace.specs.Steps.{functions_by_line}
 use Rattle.packet_trace.specs.Trace.{record_of}
 use Rattle.packet_trace.proofs.Hops.{hop_by, host_located, leaves_for, starts, went_on, delivered, dropped}
 use Rattle.packet_trace.proofs.tracer.Tracer.trace.Goals as goal
@@ -37,12 +37,12 @@ pub hops-preserved : goal.hops-preserved
 hops-preserved g c =
     let net = c.args.self.now.net.now in
     let config = c.args.self.now.config.now in
-    let ran = c.functions_at-functions.ensures ∙ ap (λ lines. functions_at lines c.in-Leaves.left.process) c.as_slice.ensures in
-    let hop = hop_by net config _ (frame_of c.hops.frame) c.in-Leaves.to c.in-Leaves.port c.in-Leaves.tag c.in-Leaves.left c.functions_at-functions.result.now c.after_functions.result c.in-Leaves.ensures ran c.after_functions.ensures in
+    let ran = c.functions_by_line-functions.ensures ∙ ap (λ lines. functions_by_line lines c.in-Leaves.left.process) c.as_slice.ensures in
+    let hop = hop_by net config _ (frame_of c.hops.frame) c.in-Leaves.to c.in-Leaves.port c.in-Leaves.tag c.in-Leaves.left c.functions_by_line-functions.result.now c.after_functions.result c.in-Leaves.ensures ran c.after_functions.ensures in
     let count : length c.push_visit.new.visits ≡ length c.hops.visits + 1 = ap length c.in_ok-push_visit-in-Leaves.ensures ∙ simp length-append in
     record {
       reaches =
-          went_on net config _ c.hops.visits c.push_visit.new.visits c.functions_at-functions.result.now (start c.args.host c.args.packet) (frame_of c.hops.frame)
+          went_on net config _ c.hops.visits c.push_visit.new.visits c.functions_by_line-functions.result.now (start c.args.host c.args.packet) (frame_of c.hops.frame)
           (frame c.in-Leaves.to c.in-Leaves.port c.in-Leaves.tag c.after_functions.result) c.in-Leaves.left ran c.in_ok-push_visit-in-Leaves.ensures c.hops.invariant.reaches hop;
       located = leaves_for net config c.locations-locations.ensures.lawful.lawful (frame_of c.hops.frame) c.in-Leaves.to c.in-Leaves.port c.in-Leaves.tag c.in-Leaves.left c.in-Leaves.ensures;
       few = omega (arith, count, c.len.ensures, c.hops-test.true);

@@ -44,8 +44,7 @@ accepted symbols checked i table has within at ks w spells =
     let path = some-at (paths_of checked.policy) i within in
     let own = has i path.0 path.1 in
     let same : own.0 ≡ table = same-some (automaton_of_statement checked i) own.0 table own.1 at in
-    let told = subst (IsAutomatonOfPath symbols path.0) same own.2 in
-    (
+    let told = subst (IsAutomatonOfPath symbols path.0) same own.2 in (
       λ e. record { path = path.0; has = path.1; described = (told.words ks w spells).0 e },
       λ on. (told.words ks w spells).1 (subst (λ p. InLanguage p w) (same-some (slice_get (paths_of checked.policy) i) on.path path.0 on.has path.1) on.described),
     )

@@ -1,7 +1,7 @@
 -- What is replied to a policy and a topology: a text stands for one policy or is refused, and not
 -- both.
-use Rattle.std.proofs.Common.{◌≡◌, ◌≢◌, ◌⊎◌, inl, inr, List, [], ◌∷◌, ℕ, Result, Ok, Err, refl, sym, ◌∙◌, ap, subst, unwrap_or}
-use Rattle.std.specs.Prelude.{Option, Some}
+use Rattle.std.proofs.Common.{◌≡◌, ◌≢◌, inl, inr, List, [], ◌∷◌, ℕ, Result, Ok, Err, IfErr, refl, sym, ◌∙◌, ap, subst, unwrap_or}
+use Rattle.std.specs.Prelude.{Some}
 use Rattle.merlin_base.specs.declared.status.Status.TheVariants as status
 use Rattle.merlin_model.specs.Networks.{Network}
 use Rattle.policy_expansion.specs.declared.policy.Policy.{Policy}
@@ -20,7 +20,7 @@ use Rattle.topology.specs.Symbols.{network_symbols}
 use Rattle.topology_rules.specs.Faults.{IsTopology, Refuses as IsRefusedTopology}
 use Rattle.topology_rules.specs.declared.fault.NetFault.{NetFault}
 use Rattle.topology_rules.specs.declared.fault.NetFault.TheVariants as net_faults
-use Rattle.merlin.specs.Compiler.{plain_policy, IsBuilt, AreRead, AreBuilt, AreUnbuilt, IsCompiledFrom, IsRefusal, IsEarlyFault, IsWantOfMemory}
+use Rattle.merlin.specs.Compiler.{plain_policy, IsBuilt, AreBuilt, AreUnbuilt, IsCompiledFrom, IsRefusal, IsFaultOver, IsEarlyFault, IsWantOfMemory}
 use Rattle.merlin.specs.Compile.{CompileForm, Compiles, IsCompileReply, compile_status}
 use Rattle.merlin.specs.declared.compiler.Compiled.{Compiled}
 use Rattle.merlin.specs.declared.compiler.EarlyFault.{EarlyFault}
@@ -105,6 +105,20 @@ module _ (known : Known) where
   Compiles-one form p t (Refused fault) (Refused other) h k = refl
   Compiles-one form p t (Refused fault) (Least compiled) h k = absurd (IsRefusal-not fault p t compiled.net (built p t form compiled k) h)
   Compiles-one form p t (Least compiled) s h k = Compiles-done form p t compiled.net (built p t form compiled h) s k
+
+-- what is wrong over the topology, once the policy is read
+
+pub fault_over : (raw : Policy) (p t : List ℕ) → IsPolicyText p raw → (fault : EarlyFault) → IsFaultOver raw t fault → IsEarlyFault fault p t
+fault_over raw p t stands (early.Policy fault) h = absurd h
+fault_over raw p t stands (early.Net fault) h = record { raw = raw; stands = stands; refused = h }
+fault_over raw p t stands (early.Check fault) h = record { raw = raw; net = h.0; read = record { stands = stands; network = h.1 }; refused = h.2 }
+fault_over raw p t stands (early.Ends fault text) h = record { raw = raw; net = h.0; read = record { stands = stands; network = h.1 }; refused = h.2 }
+fault_over raw p t stands early.Unbuilt h = record { raw = raw; net = h.0; read = record { stands = stands; network = h.1 }; accepted = h.2; other = h.3 }
+fault_over raw p t stands early.OutOfMemory h = tt
+
+pub result_over : {X : Type 0} (raw : Policy) (p t : List ℕ) → IsPolicyText p raw → (result : Result X EarlyFault) → IfErr result (IsFaultOver raw t) → IfErr result (λ fault. IsEarlyFault fault p t)
+result_over raw p t stands (Ok x) h = tt
+result_over raw p t stands (Err fault) h = fault_over raw p t stands fault h
 
 -- the same of what the files hold
 

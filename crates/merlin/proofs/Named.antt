@@ -1,5 +1,5 @@
 -- The pairs of hosts that a fault of ends names are locations of the network.
-use Rattle.std.proofs.Common.{◌≡◌, ◌<◌, ℕ, List, length, None, Some, Option, option_map, slice_get, refl}
+use Rattle.std.proofs.Common.{ℕ}
 use Rattle.merlin_model.specs.Networks.{Network}
 use Rattle.merlin_model.specs.Policies.{Policy}
 use Rattle.merlin_model.specs.Packets.{source_of, destination_of}

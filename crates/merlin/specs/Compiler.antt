@@ -1,8 +1,7 @@
 -- What a policy compiles to over a topology, and what is refused.
-use Rattle.std.specs.Prelude.{◌≡◌, ◌++◌, ◌-◌, ◌≤◌, ℕ, ⊤, length, List, [], Option, None, Some, option_map, position, bytes_eq, codes}
+use Rattle.std.specs.Prelude.{◌≡◌, ◌≤◌, ℕ, ⊤, length, List, [], Option, None, Some, option_map, position, bytes_eq, codes}
 use Rattle.std.specs.List.{AllZip}
 use Rattle.std.specs.Option.{option_or}
-use Rattle.std.specs.Fmt.{decimal}
 use Rattle.merlin_model.specs.declared.policy.Ends.{Ends}
 use Rattle.merlin_model.specs.declared.policy.Objective.{Objective}
 use Rattle.merlin_model.specs.declared.policy.Path.{Path}
@@ -17,7 +16,6 @@ use Rattle.policy_grammar.specs.declared.written.RawPath.{RawPath, Dot, Star}
 use Rattle.policy_grammar.specs.NumberedPaths.{first_unknown, numbered}
 use Rattle.policy_expansion.specs.declared.policy.Statement.{Statement}
 use Rattle.policy_expansion.specs.declared.policy.Policy.{Policy}
-use Rattle.policy_parser.specs.declared.fault.PolicyFault.{PolicyFault}
 use Rattle.policy_parser.specs.declared.fault.PolicyFault.TheVariants as faults
 use Rattle.policy_parser.specs.Policies.{IsPolicyText, IsRefused as IsRefusedPolicy}
 use Rattle.policy_check.specs.declared.guarantees.TheConstants.{MAX_GUARANTEES}

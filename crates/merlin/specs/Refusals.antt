@@ -78,13 +78,13 @@ abbrev pub location_name : Network → ℕ → List ℕ
 location_name net loc = unwrap_or (name_of net loc) []
 
 -- a text, and a pair of locations by their names
-abbrev pub pair_text : Network → List ℕ → ℕ × ℕ → List ℕ
-pair_text net front pair =
+abbrev pub hosts_text : Network → List ℕ → ℕ × ℕ → List ℕ
+hosts_text net front pair =
     (front ++ location_name net pair.0) ++ (codes " " ++ location_name net pair.1)
 
 abbrev pub ends_text : Network → List ℕ → ℕ × ℕ → ℕ × ℕ → List ℕ
 ends_text net id first second =
-    ((codes "ends " ++ id) ++ pair_text net (codes " ") first) ++ pair_text net (codes " and ") second
+    ((codes "ends " ++ id) ++ hosts_text net (codes " ") first) ++ hosts_text net (codes " and ") second
 
 abbrev pub ends_fault_text : Network → EndsFault → List ℕ
 ends_fault_text net (ends_faults.TooManyGuarantees count) = codes "more than 64 guarantees"

@@ -36,10 +36,7 @@ pub enum EarlyFault {
     Policy(PolicyFault),
     Net(NetFault),
     Check(CheckFault),
-    Ends {
-        fault: EndsFault,
-        text: Name,
-    },
+    Ends { fault: EndsFault, text: Name },
     Unbuilt,
     OutOfMemory,
 }

@@ -9,7 +9,7 @@ ghost use Rattle.merlin.specs.Refusals.{policy_fault_text as text_of_policy_faul
 ghost use Rattle.merlin.specs.Refusals.{excess_text as text_of_excess, shared_port_text as text_of_shared_port};
 ghost use Rattle.merlin.specs.Refusals.{overlap_text as text_of_overlap, conflict_text as text_of_conflict};
 ghost use Rattle.merlin.specs.Refusals.{rate_fault_text as text_of_rate_fault, check_fault_text as text_of_check_fault};
-ghost use Rattle.merlin.specs.Refusals.{pair_text, ends_text as text_of_ends, ends_fault_text as text_of_ends_fault};
+ghost use Rattle.merlin.specs.Refusals.{hosts_text, ends_text as text_of_ends, ends_fault_text as text_of_ends_fault};
 ghost use Rattle.merlin.specs.Refusals.{AreLocations, NamesLocations};
 
 use crate::compiler::EarlyFault;
@@ -195,7 +195,7 @@ fn push_pair(
     pair: (usize, usize),
 ) -> Result<(), OutOfMemory>
     requires { AreLocations net.now pair }
-    ensures { OnOk result (bytes.new.items ≡ bytes.old.items ++ pair_text net.now front.now pair) }
+    ensures { OnOk result (bytes.new.items ≡ bytes.old.items ++ hosts_text net.now front.now pair) }
 {
     push_named(bytes, front, net.name(pair.0))?;
     push_named(bytes, " ", net.name(pair.1))

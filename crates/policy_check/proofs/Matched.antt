@@ -1,19 +1,17 @@
 -- What a policy that was checked says of packets, words and ends.
-use Rattle.std.proofs.Common.{◌≡◌, ◌<◌, ◌↔◌, ℕ, zero, suc, true, List, [], ◌∷◌, length, map, Option, None, Some, slice_get, refl, sym, ◌∙◌, ap, subst, arith}
+use Rattle.std.proofs.Common.{◌≡◌, ◌<◌, ◌↔◌, ℕ, zero, suc, true, List, [], ◌∷◌, length, map, Option, Some, slice_get, refl, sym, ◌∙◌, subst, arith}
 use Rattle.std.specs.List.{AllByRecursion}
-use Rattle.std.specs.List.Sorted.{IsStrictlyIncreasing}
 use Rattle.std.specs.Prelude.{Contains}
 use Rattle.merlin_model.specs.declared.policy.Ends.{Ends}
-use Rattle.merlin_model.specs.declared.policy.Path.{Path}
 use Rattle.merlin_model.specs.declared.policy.Symbol.{Symbol}
 use Rattle.merlin_model.specs.Packets.{Packet, IsPacket}
 use Rattle.merlin_model.specs.Predicates.{holds}
 use Rattle.merlin_model.specs.Networks.{Network}
-use Rattle.merlin_model.specs.Policies.{Policy, Statement, AreDisjoint, match_of, paths_of, IsOnPath}
+use Rattle.merlin_model.specs.Policies.{Policy, Statement, AreDisjoint, match_of, paths_of}
 use Rattle.merlin_model.specs.Paths.{InLanguage}
 use Rattle.merlin_model.specs.Rates.{IsGuaranteed}
 use Rattle.merlin_model.specs.Assignments.{HasTraffic, AreTheEnds, AreAllEnds}
-use Rattle.merlin_model.proofs.Members.{In, in_from, in_to, in_map, all_in}
+use Rattle.merlin_model.proofs.Members.{in_from, in_map, all_in}
 use Rattle.merlin_model.proofs.Matching.{match_among-only}
 use Rattle.merlin_model.proofs.Ascending.{ascending-same}
 use Rattle.rate_formula.specs.Usage.{ids_in}

@@ -20,3 +20,4 @@ pub mod OwnPackets
 pub mod Lefts
 pub mod CellCounts
 pub mod CellLists
+pub mod Meeting

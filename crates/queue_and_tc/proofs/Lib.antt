@@ -1,0 +1,2 @@
+pub mod RatesByPlace
+pub mod Crossed

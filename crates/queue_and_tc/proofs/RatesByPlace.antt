@@ -1,0 +1,14 @@
+-- Rates by the place of a statement.
+use Rattle.std.proofs.Common.{ℕ, zero, suc, ◌≡◌, List, [], ◌∷◌, map, Option, None, Some, slice_get, option_map, refl}
+use Rattle.std.specs.Prelude.{unwrap_or}
+use Rattle.std.specs.Option.{option_map_or, option_and_then}
+use Rattle.merlin_model.specs.declared.policy.Term.{Term}
+use Rattle.merlin_model.specs.Policies.{Statement}
+use Rattle.merlin_model.specs.Rates.{least_of, greatest_of, max_shares, min_shares}
+use Rattle.localise.specs.Localised.{max_for, min_for}
+
+pub min-at : (terms : List Term) (ss : List Statement) (i : ℕ) →
+    unwrap_or (slice_get (map (min_for terms) (map (λ s. s.id) ss)) i) 0 ≡ option_map_or (λ s. greatest_of (min_shares s.id terms)) (slice_get ss i) 0
+min-at terms [] i = refl
+min-at terms (s ∷ ss) zero = refl
+min-at terms (s ∷ ss) (suc i) = min-at terms ss i

@@ -1,6 +1,6 @@
 //! The lines of a host: its classes, then what its list POSTROUTING and its list OUTPUT say, by destination and cell.
 
-ghost use Rattle.std.specs.Prelude.{◌≡◌, ◌++◌, is_some, OnOk, IfOk};
+ghost use Rattle.std.specs.Prelude.{◌≡◌, ◌++◌, map, is_some, OnOk, IfOk};
 ghost use Rattle.std.specs.List.{flat_map, list_any};
 ghost use Rattle.queue_and_tc.specs.HostTexts.{owner_in, class_in, out_in, match_between, class_line, class_lines_in, headed_by, reading_by, reading_in, readings_in, output_in, outputs_in, lines_in};
 
@@ -144,6 +144,16 @@ fn add_all_readings(
     Ok(())
 }
 
+// Whether some cell has a class.
+fn is_some_classed(standings: &[Standing], default: usize, cells: &[Cell]) -> bool
+    ensures { result ≡ list_any
+        (λ c. is_some (class_in standings.now (owner_in default c))) cells.now }
+{
+    cells
+        .iter()
+        .any(|cell| class_of(standings, default, cell).is_some())
+}
+
 // Adds them where some cell has a class.
 fn add_readings(
     alloc: Global,
@@ -156,11 +166,7 @@ fn add_readings(
     ensures { OnOk result (lines.new.items ≡
         lines.old.items ++ readings_in host standings.now default reach.now) }
 {
-    let cells = reach.cells.as_slice();
-    if cells
-        .iter()
-        .any(|cell| class_of(standings, default, cell).is_some())
-    {
+    if is_some_classed(standings, default, reach.cells.as_slice()) {
         return add_all_readings(alloc, host, standings, default, reach, lines);
     }
     Ok(())
@@ -188,6 +194,13 @@ fn add_all_outputs(
     Ok(())
 }
 
+// Whether some cell's owner is dropped.
+fn is_some_out(standings: &[Standing], default: usize, cells: &[Cell]) -> bool
+    ensures { result ≡ list_any (λ c. out_in standings.now (owner_in default c)) cells.now }
+{
+    cells.iter().any(|cell| is_out(standings, default, cell))
+}
+
 // Adds them where some cell's owner is dropped.
 fn add_outputs(
     alloc: Global,
@@ -200,8 +213,7 @@ fn add_outputs(
     ensures { OnOk result (lines.new.items ≡
         lines.old.items ++ outputs_in host standings.now default reach.now) }
 {
-    let cells = reach.cells.as_slice();
-    if cells.iter().any(|cell| is_out(standings, default, cell)) {
+    if is_some_out(standings, default, reach.cells.as_slice()) {
         return add_all_outputs(alloc, host, standings, default, reach, lines);
     }
     Ok(())

@@ -1,10 +1,11 @@
 //! The lines of all hosts: a host drops what has no share of a cap there, and puts into classes what has one or is guaranteed.
 
 ghost use Rattle.std.specs.Prelude.{◌≡◌, ◌≤◌, ◌<◌, ◌^◌, ◌-◌, ◌++◌, length, OnOk, IfOk};
+ghost use Rattle.std.specs.List.{flat_map};
 ghost use Rattle.merlin_model.specs.Policies.{paths_of};
-ghost use Rattle.configuration_model.specs.Hosts.{host_lines as lines_of_hosts, lines_at};
+ghost use Rattle.configuration_model.specs.Hosts.{host_lines as lines_of_hosts};
 ghost use Rattle.queue_and_tc.specs.Shares.{sources_in, pair_cells, HasFewCells};
-ghost use Rattle.queue_and_tc.specs.HostTexts.{host_in, hosts_in, host_lines_at};
+ghost use Rattle.queue_and_tc.specs.HostTexts.{host_lines_at};
 
 use crate::host_texts::add_lines;
 use crate::reaches::{Host, hosts_of, reaches_of};
@@ -29,10 +30,30 @@ fn add_host_lines(
     ensures { OnOk result (lines.new.items ≡ lines.old.items ++
         host_lines_at net.now checked.now.policy sources.now hosts.now host) }
 {
+    let _sound = checked.statements();
     let default = checked.preds().len();
     let standings = standings_of(alloc, net, checked, sources, host.loc)?;
     let reaches = reaches_of(alloc, checked.preds(), host, hosts)?;
     add_lines(alloc, host, &standings, default, &reaches, lines)
+}
+
+// Adds the lines of these hosts.
+fn add_all_lines(
+    alloc: Global,
+    net: &Topology,
+    checked: &Checked,
+    sources: &[Vec<usize>],
+    hosts: &[Host],
+    lines: &mut Vec<HostLine>,
+) -> Result<(), OutOfMemory>
+    requires statements { length (paths_of checked.now.policy) < 2 ^ 16 - 1 }
+    ensures { OnOk result (lines.new.items ≡ lines.old.items ++
+        flat_map (host_lines_at net.now checked.now.policy sources.now hosts.now) hosts.now) }
+{
+    for host in hosts {
+        add_host_lines(alloc, net, checked, sources, hosts, *host, lines)?;
+    }
+    Ok(())
 }
 
 /// The lines of all hosts, by host. `sources` are the live sources of each statement, the default's last, in the order of their locations. A host that
@@ -53,8 +74,6 @@ pub fn host_lines(
 {
     let mut lines = Vec::new(alloc);
     let hosts = hosts_of(alloc, net)?;
-    for host in &hosts {
-        add_host_lines(alloc, net, checked, sources, &hosts, *host, &mut lines)?;
-    }
+    add_all_lines(alloc, net, checked, sources, &hosts, &mut lines)?;
     Ok(lines)
 }

@@ -1,6 +1,7 @@
 //! What each statement is at a host: dropped there, or classed with a rate and a ceiling.
 
-ghost use Rattle.std.specs.Prelude.{◌≡◌, ◌<◌, ◌^◌, ◌+◌, ◌-◌, nat_lt, [], length, slice_get, unwrap_or, is_some, if◌then◌else◌, IfOk};
+ghost use Rattle.std.specs.Prelude.{◌≡◌, ◌<◌, ◌^◌, ◌+◌, ◌-◌, ◌==◌, nat_lt, [], ◌∷◌, length, find, slice_get, option_map, unwrap_or, is_some, if◌then◌else◌, IfOk, IfSome};
+ghost use Rattle.merlin_model.specs.Networks.{from_a, from_b};
 ghost use Rattle.std.specs.Option.{option_map_or};
 ghost use Rattle.merlin_model.specs.Machine.{uplink_of};
 ghost use Rattle.merlin_model.specs.Policies.{paths_of};
@@ -10,6 +11,7 @@ ghost use Rattle.queue_and_tc.specs.Shares.{sources_in, numbered_standing, stand
 use crate::rates::{max_at, min_at};
 use localise::share;
 use merlin_model::OutOfMemory;
+use merlin_model::network::Link;
 use policy_check::Checked;
 use std::alloc::Global;
 use topology::Topology;
@@ -26,9 +28,15 @@ pub struct Standing {
 
 // The place of a host in a list.
 fn place_among(hosts: &[usize], host: usize) -> Option<usize>
-    ensures { result ≡ place_of hosts.now host }
+    ensures place { result ≡ place_of hosts.now host }
+    ensures within { IfSome result (λ place. place < length hosts.now) }
 {
-    hosts.iter().position(|other| *other == host)
+    for (place, other) in hosts.iter().enumerate() {
+        if *other == host {
+            return Some(place);
+        }
+    }
+    None
 }
 
 // The share of a cap at a host among the live sources, if it is one.
@@ -50,16 +58,27 @@ fn sources_at(sources: &[Vec<usize>], statement: usize) -> &[usize]
     }
 }
 
+// What a link carries from a location, if it is one of its ends.
+fn capacity_from(link: &Link, loc: usize) -> Option<u64>
+    ensures { result ≡ option_map (λ w. w.capacity)
+        (find (λ w. w.from == loc) (from_a link.now ∷ from_b link.now ∷ [])) }
+{
+    if link.a == loc {
+        Some(link.capacity)
+    } else if link.b == loc {
+        Some(link.back)
+    } else {
+        None
+    }
+}
+
 // What the link of a host carries from it, in kbit/s.
 fn link_capacity(net: &Topology, host: usize) -> u64
     ensures { result ≡ option_map_or (λ w. w.capacity) (uplink_of net.now host) 0 }
 {
     for link in net.links() {
-        if link.a == host {
-            return link.capacity;
-        }
-        if link.b == host {
-            return link.back;
+        if let Some(capacity) = capacity_from(link, host) {
+            return capacity;
         }
     }
     0

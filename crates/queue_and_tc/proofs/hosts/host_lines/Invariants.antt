@@ -1,7 +1,0 @@
-use Rattle.std.proofs.Common.{◌≡◌, take}
-use Rattle.std.specs.List.{flat_map}
-use Rattle.queue_and_tc.specs.HostTexts.{host_lines_at}
-use Rattle.queue_and_tc.proofs.hosts.host_lines.Given as goal
-
-abbrev pub invariant-loop-host : goal.invariant-loop-host
-invariant-loop-host l = l.lines.items ≡ flat_map (host_lines_at l.net l.checked.policy l.sources l.hosts.items) (take l.host-index l.host-items)

@@ -1,5 +1,5 @@
 -- Classes are numbered from 1: by how many statements before have one.
-use Rattle.std.proofs.Common.{ℕ, zero, suc, ◌≡◌, ◌≢◌, ◌≤◌, ◌<◌, ◌+◌, ◌-◌, ◌==◌, ◌⊎◌, inl, inr, Bool, true, false, cond, List, [], ◌∷◌, ◌++◌, append_assoc, length, map, filter, Option, None, Some, slice_get, option_map, refl, sym, ◌∙◌, ap, ap₂, subst, arith}
+use Rattle.std.proofs.Common.{ℕ, zero, suc, ◌≡◌, ◌≢◌, ◌≤◌, ◌<◌, ◌+◌, ◌-◌, ◌==◌, ◌⊎◌, inl, inr, Bool, true, false, cond, List, [], ◌∷◌, ◌++◌, append_assoc, length, map, filter, Option, None, Some, is_some, refl, sym, ◌∙◌, ap, ap₂, subst, arith}
 use Rattle.std.specs.List.{flat_map, range_with_len}
 use Rattle.merlin_model.specs.declared.config.HostLine.{HostLine}
 use Rattle.merlin_model.specs.declared.config.HostLine.TheVariants as line
@@ -49,6 +49,14 @@ number-next p n number e = by (p n) refl
     by : (b : Bool) → p n ≡ b → cond b (number + 1) number ≡ 1 + count_before p (n + 1)
     by true h = let k = count-yes p n h in omega arith
     by false h = let k = count-no p n h in omega arith
+
+pub number-low : (b : Bool) (number i next : ℕ) → next ≡ cond b (number + 1) number → number ≤ 1 + i → next ≤ 1 + (i + 1)
+number-low true number i next e le = omega (arith, e, le)
+number-low false number i next e le = omega (arith, e, le)
+
+pub some-class : (b : Bool) (number : ℕ) → is_some (cond b (Some number) None) ≡ b
+some-class true number = refl
+some-class false number = refl
 
 -- The lines of classes.
 

@@ -74,7 +74,7 @@ module _ (net : Network) (policy : Policy) (sources : Sources) (few : length sou
   count = length (paths_of policy)
 
   no-sources : (i : ℕ) → count ≤ i → unwrap_or (slice_get S i) [] ≡ []
-  no-sources i le = ap (λ o. unwrap_or o []) (past-list (λ hosts. hosts.items) sources i (omega (few, le)))
+  no-sources i le = ap (λ o. unwrap_or o []) (past-list (λ hosts. hosts.items) sources i (omega (arith, few, le)))
 
   no-class : (i s : ℕ) → count ≤ i → has_class net policy sources s i ≡ false
   no-class i s le = ap (λ (hosts : List ℕ). is_some (place_among hosts s) && (is_guaranteed net policy S C i || is_above (share_among (max_of policy i) hosts s))) (no-sources i le)

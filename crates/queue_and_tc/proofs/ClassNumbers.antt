@@ -1,11 +1,10 @@
 -- Classes are numbered from 1: by how many statements before have one.
-use Rattle.std.proofs.Common.{ℕ, zero, suc, ◌≡◌, ◌≢◌, ◌≤◌, ◌<◌, ◌+◌, ◌-◌, ◌==◌, ◌⊎◌, inl, inr, Bool, true, false, cond, List, [], ◌∷◌, ◌++◌, append_assoc, length, map, filter, Option, None, Some, is_some, refl, sym, ◌∙◌, ap, ap₂, subst, arith}
+use Rattle.std.proofs.Common.{ℕ, zero, suc, ◌≡◌, ◌≢◌, ◌≤◌, ◌<◌, ◌+◌, ◌==◌, Bool, true, false, cond, List, [], ◌∷◌, ◌++◌, length, map, filter, None, Some, is_some, refl, sym, ◌∙◌, ap, arith}
 use Rattle.std.specs.List.{flat_map, range_with_len}
 use Rattle.merlin_model.specs.declared.config.HostLine.{HostLine}
-use Rattle.merlin_model.specs.declared.config.HostLine.TheVariants as line
 use Rattle.merlin_model.specs.Networks.{Network}
 use Rattle.merlin_model.specs.Policies.{Policy}
-use Rattle.configuration_model.specs.Hosts.{class_from, class_lines, rate_at, ceiling_at}
+use Rattle.configuration_model.specs.Hosts.{class_from, class_lines}
 use Rattle.queue_and_tc.specs.declared.standings.Standing.{Standing}
 use Rattle.queue_and_tc.specs.Shares.{Sources, sources_in, pair_cells, has_class, count_before, standing_of}
 use Rattle.queue_and_tc.specs.HostTexts.{class_line}

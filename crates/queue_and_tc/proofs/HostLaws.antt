@@ -12,12 +12,12 @@ use Rattle.merlin_model.specs.Rates.{max_of}
 use Rattle.rules_model.specs.Tables.{all_hosts}
 use Rattle.predicate_split.specs.declared.pair_cells.Cell.{Cell}
 use Rattle.configuration_model.specs.Checked.{preds_of}
-use Rattle.configuration_model.specs.Hosts.{place_among, share_among, is_zero, is_above, is_guaranteed, is_out, classed_at, class_at, class_lines, match_of_cell, owner_is, reading_of, readings, output_of_cell, outputs, others, headed, lines_at, host_lines}
+use Rattle.configuration_model.specs.Hosts.{place_among, share_among, is_zero, is_above, is_guaranteed, is_out, class_at, reading_of, readings, output_of_cell, outputs, others, headed, lines_at, host_lines}
 use Rattle.queue_and_tc.specs.declared.standings.Standing.{Standing}
 use Rattle.queue_and_tc.specs.declared.reaches.Host.{Host}
 use Rattle.queue_and_tc.specs.declared.reaches.Reach.{Reach}
 use Rattle.queue_and_tc.specs.Shares.{Sources, sources_in, pair_cells, has_class, count_before, standing_of, standings_of}
-use Rattle.queue_and_tc.specs.HostTexts.{host_in, hosts_in, reach_between, others_than, reaches_between, class_in, out_in, owner_in, match_between, class_lines_in, headed_by, reading_by, reading_in, readings_in, output_in, outputs_in, lines_in, host_lines_at}
+use Rattle.queue_and_tc.specs.HostTexts.{host_in, hosts_in, reach_between, reaches_between, class_in, out_in, owner_in, match_between, class_lines_in, headed_by, reading_by, reading_in, readings_in, output_in, outputs_in, host_lines_at}
 use Rattle.queue_and_tc.proofs.ClassNumbers.{classes-from, number-from}
 
 -- Lists by place.

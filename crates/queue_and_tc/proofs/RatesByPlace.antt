@@ -1,7 +1,7 @@
 -- Rates by the place of a statement, and that its predicate is well formed.
-use Rattle.std.proofs.Common.{ℕ, zero, suc, ◌≡◌, List, [], ◌∷◌, map, Option, None, Some, slice_get, option_map, refl}
+use Rattle.std.proofs.Common.{ℕ, zero, suc, ◌≡◌, List, [], ◌∷◌, map, None, slice_get, refl}
 use Rattle.std.specs.Prelude.{unwrap_or}
-use Rattle.std.specs.Option.{option_map_or, option_and_then}
+use Rattle.std.specs.Option.{option_map_or}
 use Rattle.merlin_model.specs.declared.policy.Term.{Term}
 use Rattle.std.specs.List.{AllByRecursion}
 use Rattle.merlin_model.specs.Policies.{Statement}

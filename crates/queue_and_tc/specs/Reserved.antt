@@ -1,5 +1,5 @@
 -- What is asked of guarantees and their walks, and the queues of a link in both directions.
-use Rattle.std.specs.Prelude.{ℕ, ◌≤◌, ◌<◌, ◌^◌, ◌++◌, List, length, Vec}
+use Rattle.std.specs.Prelude.{◌≤◌, ◌<◌, ◌^◌, ◌++◌, List, length, Vec}
 use Rattle.std.specs.declared.alloc.Global.{Global}
 use Rattle.merlin_model.specs.declared.config.Queue.{Queue}
 use Rattle.merlin_model.specs.declared.network.Link.{Link}

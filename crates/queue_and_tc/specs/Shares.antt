@@ -1,5 +1,5 @@
 -- What each statement is at a host, over the sources as the code has them.
-use Rattle.std.specs.Prelude.{ℕ, ◌+◌, ◌≤◌, Bool, List, filter, map, length, Option, None, Some, Vec, if◌then◌else◌}
+use Rattle.std.specs.Prelude.{ℕ, ◌+◌, ◌≤◌, Bool, List, filter, map, length, None, Some, Vec, if◌then◌else◌}
 use Rattle.std.specs.List.{range_with_len}
 use Rattle.std.specs.declared.alloc.Global.{Global}
 use Rattle.merlin_model.specs.Networks.{Network}

@@ -1,4 +1,4 @@
-use Rattle.std.proofs.Common.{◌++◌, map, filter, sym, ◌∙◌, ap}
+use Rattle.std.proofs.Common.{◌∙◌}
 use Rattle.merlin_model.specs.Networks.{kind_of}
 use Rattle.rules_model.specs.Tables.{is_host_kind}
 use Rattle.queue_and_tc.specs.HostTexts.{host_in}

@@ -16,9 +16,9 @@ loop-statement-preserved c =
     let next = c.next_number-number.ensures ∙ ap (λ (b : Bool). cond b (number + 1) number) (ap (λ (s : Standing). is_some s.class) here ∙ some-class (has_class net policy sources c.args.host i) number) in
     record {
       made =
-        c.in_ok-push.ensures.items
-        ∙ ap₂ (λ (made : List Standing) (s : Standing). made ++ s ∷ []) c.loop-statement.invariant.made (here ∙ ap (λ (n : ℕ). numbered_standing net policy sources c.args.host i n) c.loop-statement.invariant.number)
-        ∙ sym (map-range_with_len_more (standing_of net policy sources c.args.host) 0 i i (let e : 0 + i ≡ i = omega arith in e));
+          c.in_ok-push.ensures.items
+          ∙ ap₂ (λ (made : List Standing) (s : Standing). made ++ s ∷ []) c.loop-statement.invariant.made (here ∙ ap (λ (n : ℕ). numbered_standing net policy sources c.args.host i n) c.loop-statement.invariant.number)
+          ∙ sym (map-range_with_len_more (standing_of net policy sources c.args.host) 0 i i (let e : 0 + i ≡ i = omega arith in e));
       number = next ∙ number-next (has_class net policy sources c.args.host) i number c.loop-statement.invariant.number;
       low = number-low (has_class net policy sources c.args.host i) number i _ next c.loop-statement.invariant.low;
     }

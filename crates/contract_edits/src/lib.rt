@@ -6,6 +6,7 @@
 
 pub mod automata;
 pub mod configs;
+pub mod divisions;
 pub mod files;
 pub mod policies;
 pub mod splits;

@@ -1,3 +1,5 @@
 pub mod Words
 pub mod Parts
 pub mod Lines
+pub mod Fields
+pub mod Courses

@@ -6,7 +6,7 @@ use Rattle.merlin_model.specs.declared.config.Rule.{Rule}
 use Rattle.merlin_model.specs.declared.config.Process.{Process}
 use Rattle.merlin_model.specs.declared.config.Queue.{Queue}
 use Rattle.merlin_model.specs.declared.config.HostLine.{HostLine}
-use Rattle.merlin_model.specs.declared.config.HostLine.TheVariants as host_line
+use Rattle.merlin_model.specs.declared.config.HostLine.TheVariants as on_host
 use Rattle.merlin_model.specs.Networks.{Network}
 use Rattle.merlin_base.specs.Lexemes.{IsIdentifier}
 use Rattle.config_text.specs.declared.loads.Load.{Load}
@@ -56,11 +56,11 @@ abbrev pub IsClass : ℕ → Type 0
 IsClass = IsWithin 1 65535
 
 abbrev pub AreHostNumbers : HostLine → Type 0
-AreHostNumbers (host_line.Root host) = Unit {0}
-AreHostNumbers (host_line.Class host class rate ceil) = IsClass class × IsShort rate × IsShort ceil
-AreHostNumbers (host_line.Classify host m class) = IsHostMatch m × IsClass class
-AreHostNumbers (host_line.Leave host m) = IsHostMatch m
-AreHostNumbers (host_line.Output host m drop) = IsHostMatch m
+AreHostNumbers (on_host.Root host) = Unit {0}
+AreHostNumbers (on_host.Class host class rate ceil) = IsClass class × IsShort rate × IsShort ceil
+AreHostNumbers (on_host.Classify host m class) = IsHostMatch m × IsClass class
+AreHostNumbers (on_host.Leave host m) = IsHostMatch m
+AreHostNumbers (on_host.Output host m drop) = IsHostMatch m
 
 pub record IsHostLine (net : Network) (h : HostLine) : Type 0 where
   pub loc : IsLocation net (host_of h)

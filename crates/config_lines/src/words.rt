@@ -3,12 +3,15 @@
 ghost use Rattle.std.specs.Prelude.{ℕ, ◌≡◌, ◌≤◌, ◌<◌, ◌^◌, ◌++◌, ◌∷◌, List, Some, IfSome, IfNone};
 ghost use Rattle.std.specs.Fmt.{decimal};
 ghost use Rattle.merlin_model.specs.Networks.{Network};
-ghost use Rattle.config_text.specs.Lines.{name_at, function_name};
-ghost use Rattle.config_lines.specs.Words.{IsWithin, IsShort, IsLocation, IsFunction};
+ghost use Rattle.config_text.specs.Lines.{name_at, rate_with_unit};
+ghost use Rattle.config_lines.specs.Words.{IsWithin, IsShort, IsLocation};
 
-use merlin_base::{is_identifier, read_number, split_at_byte};
-use merlin_model::network::FnDecl;
+use merlin_base::{is_identifier, read_number, split_at_byte, strip_front};
 use topology::Topology;
+use topology::limits::MAX_PORT;
+
+/// The greatest port.
+pub(crate) const GREATEST_PORT: u16 = MAX_PORT as u16;
 
 /// The number within a range that the word is.
 pub(crate) fn read_short(word: &[u8], least: u16, most: u16) -> Option<u16>
@@ -16,11 +19,13 @@ pub(crate) fn read_short(word: &[u8], least: u16, most: u16) -> Option<u16>
     ensures none { IfNone result ((n : ℕ) → IsWithin least most n → word.now ≡ decimal n → ⊥) }
 {
     let number = read_number(word)?;
-    let number = u16::try_from(number).ok()?;
-    if number < least || most < number {
+    if number < usize::from(least) {
         return None;
     }
-    Some(number)
+    if usize::from(most) < number {
+        return None;
+    }
+    Some(number as u16)
 }
 
 /// The number within a range before the first such byte, and what stands behind that byte.
@@ -46,6 +51,20 @@ pub(crate) fn number_then(text: &[u8], byte: u8) -> Option<(u64, &[u8])>
 {
     let (word, rest) = split_at_byte(text, byte)?;
     let number = read_number(word)?;
+    Some((number as u64, rest))
+}
+
+/// The rate before its unit and a text behind that, and what stands behind the two.
+pub(crate) fn rate_then<'a>(text: &'a [u8], behind: &[u8]) -> Option<(u64, &'a [u8])>
+    ensures some { IfSome result (λ r.
+        (text.now ≡ rate_with_unit r.0 ++ (behind.now ++ r.1.now)) × IsShort r.0) }
+    ensures none { IfNone result ((n : ℕ) (rest : List ℕ) → IsShort n →
+        text.now ≡ rate_with_unit n ++ (behind.now ++ rest) → ⊥) }
+{
+    let (word, rest) = split_at_byte(text, b'k')?;
+    let number = read_number(word)?;
+    let rest = strip_front(rest, b"bit")?;
+    let rest = strip_front(rest, behind)?;
     Some((number as u64, rest))
 }
 

@@ -1,0 +1,20 @@
+-- What a rule does, as a list of actions.
+use Rattle.std.specs.Prelude.{List, [], ◌∷◌}
+use Rattle.merlin_model.specs.declared.config.Action.{Action}
+use Rattle.merlin_model.specs.declared.config.Action.TheVariants.{SetVlan, StripVlan, Output, Enqueue}
+use Rattle.config_lines.specs.declared.actions.Course.{Course}
+use Rattle.config_lines.specs.declared.actions.Course.TheVariants.{Drop, Send, ChangeAndSend}
+use Rattle.config_lines.specs.Words.{IsTag, IsQueue}
+use Rattle.config_lines.specs.Parts.{IsOut}
+
+-- an action with lawful numbers
+abbrev pub IsAction : Action → Type 0
+IsAction (SetVlan tag) = IsTag tag
+IsAction StripVlan = Unit {0}
+IsAction (Output out) = IsOut out
+IsAction (Enqueue out queue) = IsOut out × IsQueue queue
+
+abbrev pub actions_of : Course → List Action
+actions_of Drop = []
+actions_of (Send send) = send ∷ []
+actions_of (ChangeAndSend change send) = change ∷ send ∷ []

@@ -59,7 +59,7 @@ send_is (Enqueue out queue) is = is
 pub actions_free : (byte : ℕ) (actions : List Action) → byte < 44 → AreActions actions → Free byte (actions_text actions)
 actions_free byte actions low are = joined_free byte (codes "drop") (map action_text actions) (λ e. omega arith) ((λ e. omega arith), ((λ e. omega arith), ((λ e. omega arith), ((λ e. omega arith), tt)))) (all actions are)
   where
-    all : (as : List Action) → AreActions as → AllByRecursion (Free byte) (map action_text as)
+    all : (list : List Action) → AreActions list → AllByRecursion (Free byte) (map action_text list)
     all [] h = tt
     all (a ∷ []) h = (action_free byte a (omega arith) (send_is a h), tt)
     all (a ∷ b ∷ []) h = (action_free byte a (omega arith) (change_is a h.0), (action_free byte b (omega arith) (send_is b h.1), tt))

@@ -166,11 +166,11 @@ texts_free byte (p ∷ ps) low all = (text_free byte p low all.0, texts_free byt
 
 -- Each field of the match is one of the list, and the list has no other.
 
-plain : (r n : ℕ) (name : List ℕ) (text : ℕ → List ℕ) (o : Option ℕ) (os : List (Option ℕ)) (others : List (List ℕ)) → ((n : ℕ) → name ++ (codes "=" ++ text n) ≡ text_of (r, n)) → others ≡ map text_of (fields_from (r + 1) os) →
+plain : (r : ℕ) (name : List ℕ) (text : ℕ → List ℕ) (o : Option ℕ) (os : List (Option ℕ)) (others : List (List ℕ)) → ((n : ℕ) → name ++ (codes "=" ++ text n) ≡ text_of (r, n)) → others ≡ map text_of (fields_from (r + 1) os) →
     field name text o ++ others ≡ map text_of (fields_from r (o ∷ os))
 unfolding fields_from
-plain r n name text None os others same e = e
-plain r n name text (Some v) os others same e = (let s = same v in cc)
+plain r name text None os others same e = e
+plain r name text (Some v) os others same e = (let s = same v in cc)
 
 tagged : (o : Option Vlan) (os : List (Option ℕ)) (others : List (List ℕ)) → IsOptional IsVlan o → others ≡ map text_of (fields_from 4 os) → field (codes "dl_vlan") vlan_text o ++ others ≡ map text_of (fields_from 3 (option_map vlan_number o ∷ os))
 unfolding fields_from vlan_number text_of key_at all_keys
@@ -188,17 +188,17 @@ typed true os others e = ap (λ z. codes "dl_type=0x0800" ∷ z) e
 typed false os others e = e
 
 pub fields_are : (m : Match) → IsMatch m → match_fields m ≡ map text_of (fields_of m)
-unfolding fields_of values fields_from text_of key_at all_keys
+unfolding fields_of values fields_from text_of key_at all_keys vlan_number type_number
 fields_are m is =
-    plain 0 0 (codes "in_port") decimal m.in_port _ _ (λ n. refl)
-    (plain 1 0 (codes "dl_src") mac_text m.dl_src _ _ (λ n. refl)
-    (plain 2 0 (codes "dl_dst") mac_text m.dl_dst _ _ (λ n. refl)
-    (tagged m.dl_vlan _ _ is.dl_vlan
-    (typed m.dl_type _ _
-    (plain 5 0 (codes "nw_proto") decimal m.nw_proto _ _ (λ n. refl)
-    (plain 6 0 (codes "nw_src") ip_text m.nw_src _ _ (λ n. refl)
-    (plain 7 0 (codes "nw_dst") ip_text m.nw_dst _ _ (λ n. refl)
-    (plain 8 0 (codes "tp_src") decimal m.tp_src _ _ (λ n. refl)
+    plain 0 (codes "in_port") decimal m.in_port (m.dl_src ∷ m.dl_dst ∷ option_map vlan_number m.dl_vlan ∷ type_number m.dl_type ∷ m.nw_proto ∷ m.nw_src ∷ m.nw_dst ∷ m.tp_src ∷ m.tp_dst ∷ []) _ (λ n. refl)
+    (plain 1 (codes "dl_src") mac_text m.dl_src (m.dl_dst ∷ option_map vlan_number m.dl_vlan ∷ type_number m.dl_type ∷ m.nw_proto ∷ m.nw_src ∷ m.nw_dst ∷ m.tp_src ∷ m.tp_dst ∷ []) _ (λ n. refl)
+    (plain 2 (codes "dl_dst") mac_text m.dl_dst (option_map vlan_number m.dl_vlan ∷ type_number m.dl_type ∷ m.nw_proto ∷ m.nw_src ∷ m.nw_dst ∷ m.tp_src ∷ m.tp_dst ∷ []) _ (λ n. refl)
+    (tagged m.dl_vlan (type_number m.dl_type ∷ m.nw_proto ∷ m.nw_src ∷ m.nw_dst ∷ m.tp_src ∷ m.tp_dst ∷ []) _ is.dl_vlan
+    (typed m.dl_type (m.nw_proto ∷ m.nw_src ∷ m.nw_dst ∷ m.tp_src ∷ m.tp_dst ∷ []) _
+    (plain 5 (codes "nw_proto") decimal m.nw_proto (m.nw_src ∷ m.nw_dst ∷ m.tp_src ∷ m.tp_dst ∷ []) _ (λ n. refl)
+    (plain 6 (codes "nw_src") ip_text m.nw_src (m.nw_dst ∷ m.tp_src ∷ m.tp_dst ∷ []) _ (λ n. refl)
+    (plain 7 (codes "nw_dst") ip_text m.nw_dst (m.tp_src ∷ m.tp_dst ∷ []) _ (λ n. refl)
+    (plain 8 (codes "tp_src") decimal m.tp_src (m.tp_dst ∷ []) _ (λ n. refl)
     (last m.tp_dst)))))))))
   where
     last : (o : Option ℕ) → field (codes "tp_dst") decimal o ≡ map text_of (fields_from 9 (o ∷ []))
@@ -211,27 +211,25 @@ one_field r None os low is all = all
 one_field r (Some n) os low is all = ((low, is), all)
 
 pub fields_lawful : (m : Match) → IsMatch m → AllByRecursion IsField (fields_of m)
-unfolding fields_of values fields_from key_at all_keys
+unfolding fields_of values fields_from key_at all_keys vlan_number type_number
 fields_lawful m is =
-    one_field 0 m.in_port _ (omega arith) is.in_port
-    (one_field 1 m.dl_src _ (omega arith) is.dl_src
-    (one_field 2 m.dl_dst _ (omega arith) is.dl_dst
-    (one_field 3 (option_map vlan_number m.dl_vlan) _ (omega arith) (tag m.dl_vlan is.dl_vlan)
-    (one_field 4 (type_number m.dl_type) _ (omega arith) (ether m.dl_type)
-    (one_field 5 m.nw_proto _ (omega arith) is.nw_proto
-    (one_field 6 m.nw_src _ (omega arith) is.nw_src
-    (one_field 7 m.nw_dst _ (omega arith) is.nw_dst
-    (one_field 8 m.tp_src _ (omega arith) is.tp_src
+    one_field 0 m.in_port (m.dl_src ∷ m.dl_dst ∷ option_map vlan_number m.dl_vlan ∷ type_number m.dl_type ∷ m.nw_proto ∷ m.nw_src ∷ m.nw_dst ∷ m.tp_src ∷ m.tp_dst ∷ []) (omega arith) is.in_port
+    (one_field 1 m.dl_src (m.dl_dst ∷ option_map vlan_number m.dl_vlan ∷ type_number m.dl_type ∷ m.nw_proto ∷ m.nw_src ∷ m.nw_dst ∷ m.tp_src ∷ m.tp_dst ∷ []) (omega arith) is.dl_src
+    (one_field 2 m.dl_dst (option_map vlan_number m.dl_vlan ∷ type_number m.dl_type ∷ m.nw_proto ∷ m.nw_src ∷ m.nw_dst ∷ m.tp_src ∷ m.tp_dst ∷ []) (omega arith) is.dl_dst
+    (one_field 3 (option_map vlan_number m.dl_vlan) (type_number m.dl_type ∷ m.nw_proto ∷ m.nw_src ∷ m.nw_dst ∷ m.tp_src ∷ m.tp_dst ∷ []) (omega arith) (tag m.dl_vlan is.dl_vlan)
+    (one_field 4 (type_number m.dl_type) (m.nw_proto ∷ m.nw_src ∷ m.nw_dst ∷ m.tp_src ∷ m.tp_dst ∷ []) (omega arith) (ether m.dl_type)
+    (one_field 5 m.nw_proto (m.nw_src ∷ m.nw_dst ∷ m.tp_src ∷ m.tp_dst ∷ []) (omega arith) is.nw_proto
+    (one_field 6 m.nw_src (m.nw_dst ∷ m.tp_src ∷ m.tp_dst ∷ []) (omega arith) is.nw_src
+    (one_field 7 m.nw_dst (m.tp_src ∷ m.tp_dst ∷ []) (omega arith) is.nw_dst
+    (one_field 8 m.tp_src (m.tp_dst ∷ []) (omega arith) is.tp_src
     (one_field 9 m.tp_dst [] (omega arith) is.tp_dst tt)))))))))
   where
     tag : (o : Option Vlan) → IsOptional IsVlan o → IsOptional (IsWithin 0 4094) (option_map vlan_number o)
-    unfolding vlan_number
     tag None h = tt
     tag (Some Untagged) h = record { low = omega arith; high = omega arith }
     tag (Some (Tag n)) h = record { low = omega arith; high = h.high }
 
     ether : (b : Bool) → IsOptional (λ (n : ℕ). n ≡ 0) (type_number b)
-    unfolding type_number
     ether true = refl
     ether false = tt
 
@@ -297,7 +295,7 @@ unfolding fields_from set_at
 set_fields r k n [] h small = absurd (omega arith)
 set_fields r zero n (None ∷ os) h small =
     let empty = none_from (r + 1) (fields_from (r + 1) os) (fields_ascend (r + 1) os) (weaker (fields_from (r + 1) os) small) in
-    ap (λ ps. (r, n) ∷ ps) empty ∙ ap (λ ps. ps ++ (r + 0, n) ∷ []) (sym empty)
+    ap (λ ps. (r, n) ∷ ps) empty ∙ ap (λ k. (k, n) ∷ []) (let z : r ≡ r + 0 = omega arith in z) ∙ ap (λ ps. ps ++ (r + 0, n) ∷ []) (sym empty)
   where
     weaker : (ps : List (ℕ × ℕ)) → AllByRecursion (λ p. p.0 < r + 0) ps → AllByRecursion (λ p. p.0 < r + 1) ps
     weaker [] h = tt
@@ -333,12 +331,11 @@ values_with m TpDst n is = refl
 
 -- one field more
 pub field_pushed : (m : Match) (key : Key) (n : ℕ) → IsValue key n → end_of 0 (fields_of m) ≤ rank key → fields_of (match_with m key n) ≡ fields_of m ++ (rank key, n) ∷ []
-unfolding fields_of
+unfolding fields_of values
 field_pushed m key n is low =
-    ap (fields_from 0) (values_with m key n is) ∙ set_fields 0 (rank key) n (values m) (ten key) (all_below 0 (rank key) (fields_of m) (fields_ascend 0 (values m)) low)
+    ap (fields_from 0) (values_with m key n is) ∙ set_fields 0 (rank key) n (values m) (ten key) (all_below 0 (0 + rank key) (fields_of m) (fields_ascend 0 (values m)) (omega arith)) ∙ ap (λ k. fields_from 0 (values m) ++ (k, n) ∷ []) (let z : 0 + rank key ≡ rank key = omega arith in z)
   where
     ten : (k : Key) → rank k < length (values m)
-    unfolding values
     ten k = rank_small k
 
 lawful_vlan : (n : ℕ) → IsWithin 0 4094 n → IsVlan (vlan_of n)
@@ -362,7 +359,7 @@ match_kept m TpDst n is v = record { in_port = is.in_port; dl_src = is.dl_src; d
 
 -- the rank that ends a list is told by the texts of its fields
 pub end_same : (r : ℕ) (ps qs : List (ℕ × ℕ)) → AllByRecursion IsField ps → AllByRecursion IsField qs → map text_of ps ≡ map text_of qs → end_of r ps ≡ end_of r qs
-unfolding end_of IsField text_of
+unfolding end_of IsField text_of key_at all_keys
 end_same r [] [] f g e = refl
 end_same r [] (q ∷ qs) f g e = absurd (let no_way : [] ≡ text_of q ∷ map text_of qs → ⊥ = λ h. cc in no_way e)
 end_same r (p ∷ ps) [] f g e = absurd (let no_way : text_of p ∷ map text_of ps ≡ [] → ⊥ = λ h. cc in no_way e)
@@ -374,7 +371,6 @@ end_same r (p ∷ ps) (q ∷ qs) f g e =
     end_same (p.0 + 1) ps qs f.1 g.1 later ∙ ap (λ k. end_of (k + 1) qs) same
   where
     rank_at : (k : ℕ) → k < 10 → rank (key_at k) ≡ k
-    unfolding key_at all_keys
     rank_at zero h = refl
     rank_at (suc zero) h = refl
     rank_at (suc (suc zero)) h = refl

@@ -5,7 +5,9 @@ use Rattle.std.proofs.lemmas.List.Elements.{recursion_from_All}
 use Rattle.std.specs.List.{AllByRecursion}
 use Rattle.std.specs.Fmt.{decimal}
 use Rattle.merlin_model.specs.Networks.{Network}
-use Rattle.std.specs.Prelude.{codes}
+use Rattle.std.specs.Prelude.{Bool, true, false, codes}
+use Rattle.std.specs.Str.{bytes_eq}
+use Rattle.std.proofs.lemmas.Slice.Eq.{bytes_eq-Decides}
 use Rattle.merlin_base.specs.Lexemes.{IsDigit, Lacks, IsIdentifier, AreNameBytes, IsNameByte, IsLetter}
 use Rattle.merlin_base.proofs.Cutting.{Free, free, free_middle, AreSame, cut_once}
 use Rattle.merlin_base.proofs.Decimals.{decimal_free, is_decimal}
@@ -84,3 +86,14 @@ pub behind_rate : (text rest more : List ℕ) (n m : ℕ) → text ≡ rate_with
 behind_rate text rest more n m e f g h =
     append_cancel_left (codes "bit") rest more
     (cut_once 107 (decimal n) (decimal m) (codes "bit" ++ rest) (codes "bit" ++ more) (unit_free n f) (unit_free m g) (sym (rate_cut n rest) ∙ sym e ∙ h ∙ rate_cut m more)).rest
+
+-- A test of two texts.
+
+true_false : true ≡ false → ⊥
+true_false e = cc
+
+pub unlike : (xs ys : List ℕ) (r : Bool) → r ≡ bytes_eq xs ys → r ≡ false → xs ≡ ys → ⊥
+unlike xs ys r e f h = true_false (sym ((bytes_eq-Decides xs ys).1 h) ∙ sym e ∙ f)
+
+pub alike : (xs ys : List ℕ) (r : Bool) → r ≡ bytes_eq xs ys → r ≡ true → xs ≡ ys
+alike xs ys r e t = (bytes_eq-Decides xs ys).0 (sym e ∙ t)

@@ -1,20 +1,16 @@
-use Rattle.std.proofs.Common.{◌≡◌, ◌<◌, ◌^◌, ℕ, ◌∙◌, sym, arith}
-use Rattle.std.specs.Fmt.{decimal}
+use Rattle.std.proofs.Common.{◌≡◌, ℕ, ◌<◌, ◌≤◌, ◌∙◌, sym, arith}
 use Rattle.merlin_base.proofs.Decimals.{decimal_same}
-use Rattle.config_lines.specs.Words.{IsWithin}
 use Rattle.config_lines.proofs.words.read_short.Goals as goal
 
 pub returns-in_err-number-clause-none : goal.returns-in_err-number-clause-none
 returns-in_err-number-clause-none c = rw c.from_residual.ensures (λ n is e. let most = c.ranges.most in let h = is.high in c.in_err-number.ensures.none n (omega arith) e)
 
-pub returns-then-number-least-clause-none : goal.returns-then-number-least-clause-none
-returns-then-number-least-clause-none c = λ n is e.
-    let most = c.ranges.most in let h = is.high in let l = is.low in
-    let same = decimal_same c.in_ok-number.number n c.in_ok-number.ensures.some.1 (omega arith) (sym c.in_ok-number.ensures.some.0 ∙ e) in
-    let small = c.if-number-least.true in omega arith
+pub returns-then-number-from-clause-none : goal.returns-then-number-from-clause-none
+returns-then-number-from-clause-none c = λ n is e.
+    let most = c.ranges.most in let h = is.high in let l = is.low in let b = c.if-number-from.true in
+    let same = decimal_same c.in_ok-number.number n c.in_ok-number.ensures.some.1 (omega arith) (sym c.in_ok-number.ensures.some.0 ∙ e) in omega arith
 
-pub returns-then-most-number-clause-none : goal.returns-then-most-number-clause-none
-returns-then-most-number-clause-none c = λ n is e.
-    let most = c.ranges.most in let h = is.high in
-    let same = decimal_same c.in_ok-number.number n c.in_ok-number.ensures.some.1 (omega arith) (sym c.in_ok-number.ensures.some.0 ∙ e) in
-    let great = c.if-most-number.true in omega arith
+pub returns-then-from-number-clause-none : goal.returns-then-from-number-clause-none
+returns-then-from-number-clause-none c = λ n is e.
+    let most = c.ranges.most in let h = is.high in let b = c.if-from-number.true in
+    let same = decimal_same c.in_ok-number.number n c.in_ok-number.ensures.some.1 (omega arith) (sym c.in_ok-number.ensures.some.0 ∙ e) in omega arith

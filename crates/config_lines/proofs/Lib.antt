@@ -4,4 +4,5 @@ pub mod QueueParts
 pub mod LoadParts
 pub mod Commas
 pub mod MatchTexts
+pub mod MatchReads
 pub mod ActionTexts

@@ -1,5 +1,5 @@
 -- A match as the list of its fields, each with its rank and its number.
-use Rattle.std.proofs.Common.{◌≡◌, ◌≢◌, ℕ, zero, suc, ◌+◌, ◌≤◌, ◌<◌, ◌==◌, ◌^◌, Bool, true, false, cond, List, [], ◌∷◌, ◌++◌, map, length, get_or, option_map, refl, sym, ◌∙◌, ap, subst, arith}
+use Rattle.std.proofs.Common.{◌≡◌, ◌≢◌, ℕ, zero, suc, ◌+◌, ◌≤◌, ◌<◌, ◌==◌, ◌^◌, Bool, true, false, cond, List, [], ◌∷◌, ◌++◌, map, length, get_or, option_map, refl, sym, ◌∙◌, ap, subst, arith, append_assoc}
 use Rattle.std.specs.Prelude.{Option, None, Some, codes}
 use Rattle.std.specs.List.{AllByRecursion}
 use Rattle.std.specs.Str.{bytes_eq}
@@ -190,7 +190,7 @@ typed false os others e = e
 pub fields_are : (m : Match) → IsMatch m → match_fields m ≡ map text_of (fields_of m)
 unfolding fields_of values fields_from text_of key_at all_keys vlan_number type_number
 fields_are m is =
-    plain 0 (codes "in_port") decimal m.in_port (m.dl_src ∷ m.dl_dst ∷ option_map vlan_number m.dl_vlan ∷ type_number m.dl_type ∷ m.nw_proto ∷ m.nw_src ∷ m.nw_dst ∷ m.tp_src ∷ m.tp_dst ∷ []) _ (λ n. refl)
+    regroup ∙ plain 0 (codes "in_port") decimal m.in_port (m.dl_src ∷ m.dl_dst ∷ option_map vlan_number m.dl_vlan ∷ type_number m.dl_type ∷ m.nw_proto ∷ m.nw_src ∷ m.nw_dst ∷ m.tp_src ∷ m.tp_dst ∷ []) _ (λ n. refl)
     (plain 1 (codes "dl_src") mac_text m.dl_src (m.dl_dst ∷ option_map vlan_number m.dl_vlan ∷ type_number m.dl_type ∷ m.nw_proto ∷ m.nw_src ∷ m.nw_dst ∷ m.tp_src ∷ m.tp_dst ∷ []) _ (λ n. refl)
     (plain 2 (codes "dl_dst") mac_text m.dl_dst (option_map vlan_number m.dl_vlan ∷ type_number m.dl_type ∷ m.nw_proto ∷ m.nw_src ∷ m.nw_dst ∷ m.tp_src ∷ m.tp_dst ∷ []) _ (λ n. refl)
     (tagged m.dl_vlan (type_number m.dl_type ∷ m.nw_proto ∷ m.nw_src ∷ m.nw_dst ∷ m.tp_src ∷ m.tp_dst ∷ []) _ is.dl_vlan
@@ -201,6 +201,10 @@ fields_are m is =
     (plain 8 (codes "tp_src") decimal m.tp_src (m.tp_dst ∷ []) _ (λ n. refl)
     (last m.tp_dst)))))))))
   where
+    regroup : match_fields m ≡ field (codes "in_port") decimal m.in_port ++ (field (codes "dl_src") mac_text m.dl_src ++ (field (codes "dl_dst") mac_text m.dl_dst ++ (field (codes "dl_vlan") vlan_text m.dl_vlan ++ (type_field m.dl_type
+        ++ (field (codes "nw_proto") decimal m.nw_proto ++ (field (codes "nw_src") ip_text m.nw_src ++ (field (codes "nw_dst") ip_text m.nw_dst ++ (field (codes "tp_src") decimal m.tp_src ++ field (codes "tp_dst") decimal m.tp_dst))))))))
+    regroup = simp append_assoc
+
     last : (o : Option ℕ) → field (codes "tp_dst") decimal o ≡ map text_of (fields_from 9 (o ∷ []))
     last None = refl
     last (Some n) = refl
@@ -357,9 +361,23 @@ match_kept m NwDst n is v = record { in_port = is.in_port; dl_src = is.dl_src; d
 match_kept m TpSrc n is v = record { in_port = is.in_port; dl_src = is.dl_src; dl_dst = is.dl_dst; dl_vlan = is.dl_vlan; nw_proto = is.nw_proto; nw_src = is.nw_src; nw_dst = is.nw_dst; tp_src = v; tp_dst = is.tp_dst }
 match_kept m TpDst n is v = record { in_port = is.in_port; dl_src = is.dl_src; dl_dst = is.dl_dst; dl_vlan = is.dl_vlan; nw_proto = is.nw_proto; nw_src = is.nw_src; nw_dst = is.nw_dst; tp_src = is.tp_src; tp_dst = v }
 
+pub rank_at : (k : ℕ) → k < 10 → rank (key_at k) ≡ k
+unfolding key_at all_keys
+rank_at zero h = refl
+rank_at (suc zero) h = refl
+rank_at (suc (suc zero)) h = refl
+rank_at (suc (suc (suc zero))) h = refl
+rank_at (suc (suc (suc (suc zero)))) h = refl
+rank_at (suc (suc (suc (suc (suc zero))))) h = refl
+rank_at (suc (suc (suc (suc (suc (suc zero)))))) h = refl
+rank_at (suc (suc (suc (suc (suc (suc (suc zero))))))) h = refl
+rank_at (suc (suc (suc (suc (suc (suc (suc (suc zero)))))))) h = refl
+rank_at (suc (suc (suc (suc (suc (suc (suc (suc (suc zero))))))))) h = refl
+rank_at (suc (suc (suc (suc (suc (suc (suc (suc (suc (suc k)))))))))) h = absurd (omega arith)
+
 -- the rank that ends a list is told by the texts of its fields
 pub end_same : (r : ℕ) (ps qs : List (ℕ × ℕ)) → AllByRecursion IsField ps → AllByRecursion IsField qs → map text_of ps ≡ map text_of qs → end_of r ps ≡ end_of r qs
-unfolding end_of IsField text_of key_at all_keys
+unfolding end_of IsField text_of
 end_same r [] [] f g e = refl
 end_same r [] (q ∷ qs) f g e = absurd (let no_way : [] ≡ text_of q ∷ map text_of qs → ⊥ = λ h. cc in no_way e)
 end_same r (p ∷ ps) [] f g e = absurd (let no_way : text_of p ∷ map text_of ps ≡ [] → ⊥ = λ h. cc in no_way e)
@@ -369,16 +387,30 @@ end_same r (p ∷ ps) (q ∷ qs) f g e =
     let ranks : rank (key_at p.0) ≡ rank (key_at q.0) = same_rank (key_at p.0) (key_at q.0) p.1 q.1 first in
     let same : p.0 ≡ q.0 = sym (rank_at p.0 f.0.0) ∙ ranks ∙ rank_at q.0 g.0.0 in
     end_same (p.0 + 1) ps qs f.1 g.1 later ∙ ap (λ k. end_of (k + 1) qs) same
-  where
-    rank_at : (k : ℕ) → k < 10 → rank (key_at k) ≡ k
-    rank_at zero h = refl
-    rank_at (suc zero) h = refl
-    rank_at (suc (suc zero)) h = refl
-    rank_at (suc (suc (suc zero))) h = refl
-    rank_at (suc (suc (suc (suc zero)))) h = refl
-    rank_at (suc (suc (suc (suc (suc zero))))) h = refl
-    rank_at (suc (suc (suc (suc (suc (suc zero)))))) h = refl
-    rank_at (suc (suc (suc (suc (suc (suc (suc zero))))))) h = refl
-    rank_at (suc (suc (suc (suc (suc (suc (suc (suc zero)))))))) h = refl
-    rank_at (suc (suc (suc (suc (suc (suc (suc (suc (suc zero))))))))) h = refl
-    rank_at (suc (suc (suc (suc (suc (suc (suc (suc (suc (suc k)))))))))) h = absurd (omega arith)
+
+abbrev pub no_field : Match
+no_field = record { in_port = None; dl_src = None; dl_dst = None; dl_vlan = None; dl_type = false; nw_proto = None; nw_src = None; nw_dst = None; tp_src = None; tp_dst = None }
+
+pub no_fields : fields_of no_field ≡ []
+unfolding fields_of values fields_from vlan_number type_number
+no_fields = refl
+
+pub end_none : (r : ℕ) → end_of r [] ≡ r
+unfolding end_of
+end_none r = refl
+
+pub all_ascend : (m : Match) → Ascend 0 (fields_of m)
+unfolding fields_of
+all_ascend m = fields_ascend 0 (values m)
+
+pub text_is : (key : Key) (n : ℕ) → text_of (rank key, n) ≡ field_text key n
+unfolding text_of
+text_is key n = ap (λ k. field_text k n) (key_of_rank key)
+
+pub text_at : (p : ℕ × ℕ) → text_of p ≡ field_text (key_at p.0) p.1
+unfolding text_of
+text_at p = refl
+
+pub lawful_at : (p : ℕ × ℕ) → IsField p → (p.0 < 10) × IsValue (key_at p.0) p.1
+unfolding IsField
+lawful_at p is = is

@@ -18,7 +18,7 @@ use Rattle.config_lines.specs.Words.{IsPort, IsTag, IsQueue}
 use Rattle.config_lines.specs.Parts.{IsOut, IsTagging, IsSending, AreActions}
 use Rattle.config_lines.specs.Courses.{IsAction}
 use Rattle.config_lines.proofs.Then.{short_free}
-use Rattle.config_lines.proofs.Commas.{joined_free}
+use Rattle.config_lines.proofs.Joined.{joined_free}
 
 heads : (a b : ℕ) (x y : List ℕ) → a ∷ x ≡ b ∷ y → a ≡ b
 heads a b x y e = cc

@@ -2,7 +2,11 @@ pub mod Then
 pub mod AddressTexts
 pub mod QueueParts
 pub mod LoadParts
-pub mod Commas
+pub mod FunctionTexts
+pub mod ProcessParts
+pub mod FrameLines
+pub mod RuleParts
+pub mod Joined
 pub mod MatchTexts
 pub mod MatchReads
 pub mod ActionTexts

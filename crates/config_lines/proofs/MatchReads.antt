@@ -10,18 +10,18 @@ use Rattle.config_text.specs.Lines.{match_text}
 use Rattle.config_lines.specs.declared.fields.Key.{Key}
 use Rattle.config_lines.specs.Parts.{IsMatch}
 use Rattle.config_lines.specs.Fields.{rank, IsValue, field_text, match_with}
-use Rattle.config_lines.proofs.Commas.{with_commas, HasNext, has_next, next_part, all_at, all_front, nothing_behind, one_more, last_one, some_parts}
+use Rattle.config_lines.proofs.Joined.{each_then, HasNext, has_next, next_part, all_at, all_front, nothing_behind, one_more, last_one, joined_some, some_parts}
 use Rattle.config_lines.proofs.MatchTexts.{key_at, same_rank, fields_of, text_of, IsField, text_free, fields_are, fields_lawful, Ascend, end_of, next_rank, end_last, field_pushed, match_kept, rank_at, end_same, no_field, no_fields, end_none, all_ascend, text_is, text_at, lawful_at}
 
 -- the fields of the match stand before what is left, and the next key has at least this rank
 pub record IsReadTo (word : List ℕ) (m : Match) (least : ℕ) (rest : List ℕ) : Type 0 where
-  pub text : word ≡ with_commas text_of (fields_of m) ++ rest
+  pub text : word ≡ each_then 44 text_of (fields_of m) ++ rest
   pub fits : IsMatch m
   pub least_is : least ≡ end_of 0 (fields_of m)
 
 pub nothing_read : (word : List ℕ) → IsReadTo word no_field 0 word
 nothing_read word = record {
-  text = ap (λ ps. with_commas text_of ps ++ word) (sym no_fields);
+  text = ap (λ ps. each_then 44 text_of ps ++ word) (sym no_fields);
   fits = record { in_port = tt; dl_src = tt; dl_dst = tt; dl_vlan = tt; nw_proto = tt; nw_src = tt; nw_dst = tt; tp_src = tt; tp_dst = tt };
   least_is = sym (end_none 0) ∙ ap (end_of 0) (sym no_fields);
 }
@@ -39,7 +39,7 @@ record IsNext (m other : Match) (part : List ℕ) : Type 0 where
 is-next : (word rest part behind : List ℕ) (m : Match) (least : ℕ) → (word ≡ codes "any" → ⊥) → IsReadTo word m least rest → rest ≡ part ++ behind → Lacks 44 part → IsEmptyOrBegins 44 behind → (other : Match) → IsMatch other → word ≡ match_text other → IsNext m other part
 is-next word rest part behind m least differ so e l b other is h =
     let some = some_parts text_of (fields_of other) (codes "any") word differ (h ∙ ap (joined_by_commas (codes "any")) (fields_are other is)) in
-    let has = has_next text_of IsField (λ p f. text_free 44 p (omega arith) f) (fields_of m) (fields_of other) rest (fields_lawful m so.fits) (fields_lawful other is) some.0 (some.1 ∙ so.text) in
+    let has = has_next 44 text_of IsField (λ p f. text_free 44 p (omega arith) f) (fields_of m) (fields_of other) rest (fields_lawful m so.fits) (fields_lawful other is) some.0 (some.1 ∙ so.text) in
     let lawful : IsField has.next = all_at IsField has.front has.later has.next (subst (AllByRecursion IsField) has.is (fields_lawful other is)) in
     record {
       front = has.front;
@@ -48,7 +48,7 @@ is-next word rest part behind m least differ so e l b other is h =
       is = has.is;
       same = has.same;
       lawful = lawful;
-      text = (next_part text_of IsField (λ p f. text_free 44 p (omega arith) f) (fields_of m) (fields_of other) rest part behind has lawful e l b).front;
+      text = (next_part 44 text_of IsField (λ p f. text_free 44 p (omega arith) f) (fields_of m) (fields_of other) rest part behind has lawful e l b).front;
     }
 
 pub wrong_field : (word rest part behind : List ℕ) (m : Match) (least : ℕ) → (word ≡ codes "any" → ⊥) → IsReadTo word m least rest → rest ≡ part ++ behind → Lacks 44 part → IsEmptyOrBegins 44 behind →
@@ -73,7 +73,7 @@ pub field_read : (word rest part behind more : List ℕ) (m : Match) (least : �
 field_read word rest part behind more m least key n so e f v low g =
     let pushed = field_pushed m key n v (let is_least = so.least_is in omega arith) in
     record {
-      text = one_more text_of (fields_of m) (rank key, n) word rest part behind more so.text e (f ∙ sym (text_is key n)) g ∙ ap (λ ps. with_commas text_of ps ++ more) (sym pushed);
+      text = one_more 44 text_of (fields_of m) (rank key, n) word rest part behind more so.text e (f ∙ sym (text_is key n)) g ∙ ap (λ ps. each_then 44 text_of ps ++ more) (sym pushed);
       fits = match_kept m key n so.fits v;
       least_is = sym (end_last 0 (fields_of m) (rank key, n)) ∙ ap (end_of 0) (sym pushed);
     }
@@ -83,7 +83,7 @@ pub match_read : (word rest part behind : List ℕ) (m : Match) (least : ℕ) (k
 match_read word rest part behind m least key n so e f v low b none =
     let pushed = field_pushed m key n v (let is_least = so.least_is in omega arith) in
     let kept = match_kept m key n so.fits v in (
-      last_one text_of (fields_of m) (rank key, n) (codes "any") word rest part behind so.text e (f ∙ sym (text_is key n)) (nothing_behind behind b none)
+      last_one 44 text_of (fields_of m) (rank key, n) word rest part behind so.text e (f ∙ sym (text_is key n)) (nothing_behind 44 behind b none) ∙ joined_some text_of (fields_of m) (rank key, n) (codes "any")
           ∙ ap (λ ps. joined_by_commas (codes "any") (map text_of ps)) (sym pushed) ∙ ap (joined_by_commas (codes "any")) (sym (fields_are (match_with m key n) kept)),
       kept,
     )

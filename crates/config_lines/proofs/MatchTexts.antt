@@ -18,7 +18,7 @@ use Rattle.config_lines.specs.Parts.{IsVlan, IsMatch}
 use Rattle.config_lines.specs.Fields.{key_word, rank, vlan_number_text, value_text, IsValue, field_text, vlan_of, match_with}
 use Rattle.config_lines.proofs.Then.{short_free}
 use Rattle.config_lines.proofs.AddressTexts.{mac_free, ip_free}
-use Rattle.config_lines.proofs.Commas.{joined_free}
+use Rattle.config_lines.proofs.Joined.{joined_free}
 
 pub all_keys : List Key
 all_keys = InPort ∷ DlSrc ∷ DlDst ∷ DlVlan ∷ DlType ∷ NwProto ∷ NwSrc ∷ NwDst ∷ TpSrc ∷ TpDst ∷ []

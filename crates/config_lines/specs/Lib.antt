@@ -3,3 +3,4 @@ pub mod Parts
 pub mod Lines
 pub mod Fields
 pub mod Courses
+pub mod Frames

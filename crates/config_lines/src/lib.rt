@@ -6,8 +6,12 @@ mod addresses;
 mod fields;
 pub mod limits;
 mod loads;
+mod processes;
 mod queues;
+mod rules;
 mod words;
 
 pub use loads::read_load;
+pub use processes::read_process;
 pub use queues::read_queue;
+pub use rules::read_rule;

@@ -1,5 +1,7 @@
 -- The names of functions, joined by commas.
-use Rattle.std.proofs.Common.{◌≡◌, ◌≢◌, ℕ, ◌<◌, List, [], ◌∷◌, ◌++◌, map, refl, sym, ◌∙◌, ap, subst, arith}
+use Rattle.std.proofs.Common.{◌≡◌, ◌≢◌, ℕ, ◌<◌, List, [], ◌∷◌, ◌++◌, map, length, get_or, unwrap_or, option_map, refl, sym, ◌∙◌, ap, subst, arith}
+use Rattle.std.proofs.lemmas.Option.{slice_get-get_or}
+use Rattle.merlin_model.specs.declared.network.FnDecl.{FnDecl}
 use Rattle.std.specs.Prelude.{codes}
 use Rattle.std.specs.List.{AllByRecursion}
 use Rattle.merlin_model.specs.Networks.{Network}
@@ -47,3 +49,7 @@ names_read net word rest part behind fs f so e g is b none = (
   last_one 44 (name_in net) fs f word rest part behind so.text e g (nothing_behind 44 behind b none) ∙ joined_some (name_in net) fs f (codes "-"),
   all_push (IsFunction net) fs f so.lawful is,
 )
+
+-- the name of a function that is declared
+pub name_of_declared : (declared : List FnDecl) (f : ℕ) (d : FnDecl) → f < length declared → function_name declared f ≡ (get_or declared f d).name
+name_of_declared declared f d within = ap (λ o. unwrap_or (option_map (λ g. g.name) o) []) (slice_get-get_or declared f d within)

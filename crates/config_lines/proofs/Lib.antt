@@ -5,6 +5,7 @@ pub mod LoadParts
 pub mod FunctionTexts
 pub mod ProcessParts
 pub mod FrameLines
+pub mod SymbolTexts
 pub mod RuleParts
 pub mod Joined
 pub mod MatchTexts

@@ -9,9 +9,11 @@ mod loads;
 mod processes;
 mod queues;
 mod rules;
+mod walks;
 mod words;
 
 pub use loads::read_load;
 pub use processes::read_process;
 pub use queues::read_queue;
 pub use rules::read_rule;
+pub use walks::read_walk;

@@ -14,7 +14,7 @@ pub returns-in_err-loc-clause-none : goal.returns-in_err-loc-clause-none
 returns-in_err-loc-clause-none c = rw c.from_residual-in_err-loc.ensures (λ rule more is e. c.in_err-loc.ensures.none rule.loc (from_priority c.args.net.now rule more) is.loc (start c.args.net.now c.args.text.now c.in_ok-rest.rest.now rule more c.in_ok-rest.ensures.some e))
 
 pub returns-in_err-priority-clause-none : goal.returns-in_err-priority-clause-none
-returns-in_err-priority-clause-none c = rw c.from_residual-in_err-priority.ensures (λ rule more is e. c.in_err-priority.ensures.none r.priority (from_fits c.args.net.now rule more) (within_double rule.priority is.priority) (after_loc c.args.net.now c.in_ok-rest.rest.now c.in_ok-loc.rest.now c.in_ok-loc.loc rule more c.in_ok-loc.ensures.some.0 c.in_ok-loc.ensures.some.1 is (start c.args.net.now c.args.text.now c.in_ok-rest.rest.now rule more c.in_ok-rest.ensures.some e)))
+returns-in_err-priority-clause-none c = rw c.from_residual-in_err-priority.ensures (λ rule more is e. c.in_err-priority.ensures.none rule.priority (from_fits c.args.net.now rule more) (within_double rule.priority is.priority) (after_loc c.args.net.now c.in_ok-rest.rest.now c.in_ok-loc.rest.now c.in_ok-loc.loc rule more c.in_ok-loc.ensures.some.0 c.in_ok-loc.ensures.some.1 is (start c.args.net.now c.args.text.now c.in_ok-rest.rest.now rule more c.in_ok-rest.ensures.some e)))
 
 pub returns-in_err-fits-clause-none : goal.returns-in_err-fits-clause-none
 returns-in_err-fits-clause-none c = rw c.from_residual-in_err-fits.ensures (λ rule more is e. c.in_err-fits.ensures.none rule.fits (from_actions c.args.net.now rule more) is.fits (after_priority c.args.net.now c.in_ok-loc.rest.now c.in_ok-priority.rest.now c.in_ok-priority.priority rule more c.in_ok-priority.ensures.some.0 c.in_ok-priority.ensures.some.1.high is (after_loc c.args.net.now c.in_ok-rest.rest.now c.in_ok-loc.rest.now c.in_ok-loc.loc rule more c.in_ok-loc.ensures.some.0 c.in_ok-loc.ensures.some.1 is (start c.args.net.now c.args.text.now c.in_ok-rest.rest.now rule more c.in_ok-rest.ensures.some e))))

@@ -1,5 +1,5 @@
 -- The texts of actions are told apart.
-use Rattle.std.proofs.Common.{◌≡◌, ◌≢◌, ℕ, ◌≤◌, ◌<◌, ◌⊎◌, inl, inr, List, [], ◌∷◌, ◌++◌, map, refl, sym, ◌∙◌, ap, subst, append-nil, arith}
+use Rattle.std.proofs.Common.{◌≡◌, ℕ, ◌<◌, ◌⊎◌, inl, inr, List, [], ◌∷◌, ◌++◌, map, refl, sym, ◌∙◌, ap, append-nil, arith}
 use Rattle.std.proofs.lemmas.List.{append_cancel_left}
 use Rattle.std.specs.Prelude.{codes}
 use Rattle.std.specs.List.{AllByRecursion}
@@ -10,11 +10,10 @@ use Rattle.merlin_model.specs.declared.config.Action.{Action}
 use Rattle.merlin_model.specs.declared.config.Action.TheVariants.{SetVlan, StripVlan, Output, Enqueue}
 use Rattle.merlin_base.specs.Lexemes.{Lacks}
 use Rattle.merlin_base.specs.Pairs.{IsEmptyOrBegins}
-use Rattle.merlin_base.proofs.Cutting.{Free, free, free_append, cut_once, cut_before_once}
+use Rattle.merlin_base.proofs.Cutting.{Free, free, free_append, cut_before_once}
 use Rattle.merlin_base.proofs.Decimals.{decimal_free_colon}
-use Rattle.config_text.specs.Words.{joined_by_commas}
 use Rattle.config_text.specs.Lines.{out_text, action_text, actions_text}
-use Rattle.config_lines.specs.Words.{IsPort, IsTag, IsQueue}
+use Rattle.config_lines.specs.Words.{IsTag, IsQueue}
 use Rattle.config_lines.specs.Parts.{IsOut, IsTagging, IsSending, AreActions}
 use Rattle.config_lines.specs.Courses.{IsAction}
 use Rattle.config_lines.proofs.Then.{short_free}
@@ -41,8 +40,31 @@ action_free byte (SetVlan n) low is = front byte low (decimal n) (short_free byt
     front b l rest f = ((λ e. omega arith), ((λ e. omega arith), ((λ e. omega arith), ((λ e. omega arith), ((λ e. omega arith), ((λ e. omega arith), ((λ e. omega arith), ((λ e. omega arith), ((λ e. omega arith), ((λ e. omega arith), ((λ e. omega arith), ((λ e. omega arith), ((λ e. omega arith), f)))))))))))))
 action_free byte StripVlan low is = ((λ e. omega arith), ((λ e. omega arith), ((λ e. omega arith), ((λ e. omega arith), ((λ e. omega arith), ((λ e. omega arith), ((λ e. omega arith), ((λ e. omega arith), ((λ e. omega arith), ((λ e. omega arith), tt))))))))))
 action_free byte (Output out) low is = ((λ e. omega arith), ((λ e. omega arith), ((λ e. omega arith), ((λ e. omega arith), ((λ e. omega arith), ((λ e. omega arith), ((λ e. omega arith), out_free byte out low is)))))))
-action_free byte (Enqueue out queue) low is = ((λ e. omega arith), ((λ e. omega arith), ((λ e. omega arith), ((λ e. omega arith), ((λ e. omega arith), ((λ e. omega arith), ((λ e. omega arith), ((λ e. omega arith),
-    free_append byte (out_text out) (58 ∷ decimal queue) (out_free byte out low is.0) ((λ e. omega arith), short_free byte 1 64 queue low (omega arith) is.1)))))))))
+action_free byte (Enqueue out queue) low is = (
+  (λ e. omega arith),
+  (
+    (λ e. omega arith),
+    (
+      (λ e. omega arith),
+      (
+        (λ e. omega arith),
+        (
+          (λ e. omega arith),
+          (
+            (λ e. omega arith),
+            (
+              (λ e. omega arith),
+              (
+                (λ e. omega arith),
+                free_append byte (out_text out) (58 ∷ decimal queue) (out_free byte out low is.0) ((λ e. omega arith), short_free byte 1 64 queue low (omega arith) is.1),
+              ),
+            ),
+          ),
+        ),
+      ),
+    ),
+  ),
+)
 
 change_is : (a : Action) → IsTagging a → IsAction a
 change_is (SetVlan n) is = is

@@ -1,10 +1,10 @@
 -- Texts of addresses are read back, and lack what separates the words of a line.
-use Rattle.std.proofs.Common.{◌≡◌, ◌≢◌, ℕ, zero, suc, ◌+◌, ◌*◌, ◌/◌, ◌%◌, ◌≤◌, ◌<◌, ◌^◌, inl, inr, Bool, true, false, nat_lt, cond, List, [], ◌∷◌, ◌++◌, length, map, refl, sym, ◌∙◌, ap, subst, arith}
+use Rattle.std.proofs.Common.{◌≡◌, ℕ, zero, suc, ◌+◌, ◌/◌, ◌%◌, ◌≤◌, ◌<◌, ◌^◌, Bool, true, false, nat_lt, cond, List, [], ◌∷◌, ◌++◌, length, map, refl, sym, ◌∙◌, ap, arith}
 use Rattle.std.proofs.Math.Nat.{div-div-eq-div-mul}
 use Rattle.std.specs.List.{AllByRecursion, join_with_byte}
 use Rattle.std.specs.Fmt.{decimal, digit_glyph}
 use Rattle.std.specs.Int.{bytes_high_first}
-use Rattle.merlin_base.specs.Lexemes.{Lacks, IsHexPair, IsHexDigit, IsOctet, IsMac, IsIp, AreJoined, of_octets}
+use Rattle.merlin_base.specs.Lexemes.{IsOctet, IsIp, AreJoined, of_octets}
 use Rattle.merlin_base.specs.Addresses.{hex_pair, mac_text, ip_text}
 use Rattle.merlin_base.proofs.Cutting.{Free, free_append}
 use Rattle.merlin_base.proofs.Decimals.{decimal_of, decimal_free}

@@ -13,7 +13,7 @@ use Rattle.config_lines.specs.Words.{IsFunction}
 use Rattle.config_lines.specs.Lines.{process_line, IsProcessLine}
 use Rattle.config_lines.specs.Frames.{frame_text, IsFrame, process_of}
 use Rattle.config_lines.proofs.FunctionTexts.{functions_free}
-use Rattle.config_lines.proofs.ProcessParts.{parts, start, after_loc, after_tag, after_eth_dst, from_loc, from_next_tag}
+use Rattle.config_lines.proofs.ProcessParts.{parts, start, after_loc, after_tag, after_eth_dst}
 
 pub line_is : (net : Network) (f : Frame) (fs text rest : List ℕ) → text ≡ frame_text net f rest → f.names.now ≡ functions_text net.functions fs → text ≡ process_line net (process_of f fs) ++ rest
 line_is net f fs text rest e names =

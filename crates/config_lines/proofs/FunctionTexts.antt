@@ -1,5 +1,5 @@
 -- The names of functions, joined by commas.
-use Rattle.std.proofs.Common.{◌≡◌, ◌≢◌, ℕ, ◌<◌, List, [], ◌∷◌, ◌++◌, map, length, get_or, unwrap_or, option_map, refl, sym, ◌∙◌, ap, subst, arith}
+use Rattle.std.proofs.Common.{◌≡◌, ℕ, ◌<◌, List, [], ◌∷◌, ◌++◌, map, length, get_or, unwrap_or, option_map, ◌∙◌, ap, subst, arith}
 use Rattle.std.proofs.lemmas.Option.{slice_get-get_or}
 use Rattle.merlin_model.specs.declared.network.FnDecl.{FnDecl}
 use Rattle.std.specs.Prelude.{codes}
@@ -8,11 +8,10 @@ use Rattle.merlin_model.specs.Networks.{Network}
 use Rattle.merlin_base.specs.Lexemes.{Lacks}
 use Rattle.merlin_base.specs.Pairs.{IsEmptyOrBegins}
 use Rattle.merlin_base.proofs.Cutting.{Free}
-use Rattle.config_text.specs.Words.{joined_by_commas}
 use Rattle.config_text.specs.Lines.{function_name, functions_text}
 use Rattle.config_lines.specs.Words.{IsFunction}
 use Rattle.config_lines.proofs.Then.{function_free}
-use Rattle.config_lines.proofs.Joined.{each_then, HasNext, has_next, next_part, all_at, all_push, nothing_behind, one_more, last_one, joined_some, joined_free, some_parts}
+use Rattle.config_lines.proofs.Joined.{each_then, has_next, next_part, all_at, all_push, nothing_behind, one_more, last_one, joined_some, joined_free, some_parts}
 
 abbrev pub name_in : Network → ℕ → List ℕ
 name_in net = function_name net.functions

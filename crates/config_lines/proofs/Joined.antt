@@ -1,5 +1,5 @@
 -- Lists of parts that are joined by a byte, read from the left.
-use Rattle.std.proofs.Common.{◌≡◌, ◌≢◌, ℕ, inl, inr, List, [], ◌∷◌, ◌++◌, map, refl, sym, ◌∙◌, ap, subst, append_assoc, append-nil, arith}
+use Rattle.std.proofs.Common.{◌≡◌, ◌≢◌, ℕ, List, [], ◌∷◌, ◌++◌, map, refl, sym, ◌∙◌, ap, subst, append_assoc, append-nil}
 use Rattle.std.specs.List.{AllByRecursion, flat_map, join_with_byte}
 use Rattle.merlin_base.specs.Lexemes.{Lacks}
 use Rattle.merlin_base.specs.Pairs.{IsEmptyOrBegins}
@@ -35,7 +35,7 @@ has_next byte text Is lacking (d ∷ ds) (x ∷ []) rest f g some e =
     absurd (free_middle byte (text d) (each_then byte text ds ++ rest) (subst (Free byte) (e ∙ append_assoc (text d ++ byte ∷ []) (each_then byte text ds) rest ∙ append_assoc (text d) (byte ∷ []) (each_then byte text ds ++ rest)) (lacking x g.0)))
 has_next byte text Is lacking (d ∷ ds) (x ∷ y ∷ ys) rest f g some e =
     let cut : AreSame (text x) (text d) (join_with_byte byte (map text (y ∷ ys))) (each_then byte text ds ++ rest) =
-        cut_once byte (text x) (text d) _ _ (lacking x g.0) (lacking d f.0) (e ∙ append_assoc (text d ++ byte ∷ []) (each_then byte text ds) rest ∙ append_assoc (text d) (byte ∷ []) (each_then byte text ds ++ rest)) in
+    cut_once byte (text x) (text d) _ _ (lacking x g.0) (lacking d f.0) (e ∙ append_assoc (text d ++ byte ∷ []) (each_then byte text ds) rest ∙ append_assoc (text d) (byte ∷ []) (each_then byte text ds ++ rest)) in
     let later = has_next byte text Is lacking ds (y ∷ ys) rest f.1 g.1 (λ h. let no_way : y ∷ ys ≡ [] → ⊥ = λ k. cc in no_way h) cut.rest in
     record { front = x ∷ later.front; next = later.next; later = later.later; is = ap (λ zs. x ∷ zs) later.is; same = (let a = cut.front in let b = later.same in cc); left = later.left }
 

@@ -1,5 +1,5 @@
 -- A match that is read field by field.
-use Rattle.std.proofs.Common.{◌≡◌, ◌≢◌, ℕ, ◌+◌, ◌≤◌, ◌<◌, List, [], ◌∷◌, ◌++◌, map, refl, sym, ◌∙◌, ap, subst, arith}
+use Rattle.std.proofs.Common.{◌≡◌, ℕ, ◌+◌, ◌≤◌, ◌<◌, List, ◌∷◌, ◌++◌, map, sym, ◌∙◌, ap, subst, arith}
 use Rattle.std.specs.Prelude.{codes}
 use Rattle.std.specs.List.{AllByRecursion}
 use Rattle.merlin_model.specs.declared.config.Match.{Match}
@@ -10,7 +10,7 @@ use Rattle.config_text.specs.Lines.{match_text}
 use Rattle.config_lines.specs.declared.fields.Key.{Key}
 use Rattle.config_lines.specs.Parts.{IsMatch}
 use Rattle.config_lines.specs.Fields.{rank, IsValue, field_text, match_with}
-use Rattle.config_lines.proofs.Joined.{each_then, HasNext, has_next, next_part, all_at, all_front, nothing_behind, one_more, last_one, joined_some, some_parts}
+use Rattle.config_lines.proofs.Joined.{each_then, has_next, next_part, all_at, all_front, nothing_behind, one_more, last_one, joined_some, some_parts}
 use Rattle.config_lines.proofs.MatchTexts.{key_at, same_rank, fields_of, text_of, IsField, text_free, fields_are, fields_lawful, Ascend, end_of, next_rank, end_last, field_pushed, match_kept, rank_at, end_same, no_field, no_fields, end_none, all_ascend, text_is, text_at, lawful_at}
 
 -- the fields of the match stand before what is left, and the next key has at least this rank
@@ -65,7 +65,7 @@ wrong_rank word rest part behind m least key n differ so e l b f low other is h 
     let at : rank (key_at next.next.0) ≡ next.next.0 = rank_at next.next.0 (lawful_at next.next next.lawful).0 in
     let above : end_of 0 next.front ≤ next.next.0 = next_rank 0 next.front next.later next.next (subst (Ascend 0) next.is (all_ascend other)) in
     let ends : end_of 0 next.front ≡ end_of 0 (fields_of m) =
-        end_same 0 next.front (fields_of m) (all_front IsField next.front (next.next ∷ next.later) (subst (AllByRecursion IsField) next.is (fields_lawful other is))) (fields_lawful m so.fits) next.same in
+    end_same 0 next.front (fields_of m) (all_front IsField next.front (next.next ∷ next.later) (subst (AllByRecursion IsField) next.is (fields_lawful other is))) (fields_lawful m so.fits) next.same in
     let is_least = so.least_is in omega arith
 
 pub field_read : (word rest part behind more : List ℕ) (m : Match) (least : ℕ) (key : Key) (n : ℕ) → IsReadTo word m least rest → rest ≡ part ++ behind → part ≡ field_text key n → IsValue key n → least ≤ rank key → behind ≡ 44 ∷ more →

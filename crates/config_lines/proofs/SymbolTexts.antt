@@ -7,14 +7,14 @@ use Rattle.merlin_model.specs.declared.policy.Symbol.{Symbol}
 use Rattle.merlin_model.specs.Networks.{Network}
 use Rattle.merlin_base.specs.Lexemes.{Lacks, IsIdentifier}
 use Rattle.merlin_base.specs.Pairs.{IsEmptyOrBegins}
-use Rattle.merlin_base.proofs.Cutting.{Free, free, free_append, free_middle, AreSame, cut_once}
+use Rattle.merlin_base.proofs.Cutting.{Free, free, free_append, free_middle, cut_once}
 use Rattle.config_text.specs.Lines.{name_at, function_name}
 use Rattle.config_text.specs.Result.{symbol_text}
 use Rattle.config_lines.specs.Words.{IsOptional, IsLocation, IsFunction}
 use Rattle.config_lines.specs.Parts.{IsSymbol}
 use Rattle.config_lines.specs.Lines.{walk_line, IsWalkLine}
 use Rattle.config_lines.proofs.Then.{no_byte, same_part, location_free, function_free, identifier_free, identifier_free_colon}
-use Rattle.config_lines.proofs.Joined.{each_then, HasNext, has_next, next_part, all_at, all_push, nothing_behind, one_more, last_one}
+use Rattle.config_lines.proofs.Joined.{each_then, has_next, next_part, all_at, all_push, nothing_behind, one_more, last_one}
 
 abbrev pub symbol : ℕ → Option ℕ → Symbol
 symbol loc fun = record { loc = loc; fun = fun }

@@ -1,5 +1,5 @@
 -- A part of a text and the byte behind it, which the part lacks.
-use Rattle.std.proofs.Common.{◌≡◌, ◌≢◌, ℕ, ◌≤◌, ◌<◌, ◌^◌, inl, inr, List, [], ◌∷◌, ◌++◌, refl, sym, ◌∙◌, ap, subst, arith, append_assoc}
+use Rattle.std.proofs.Common.{◌≡◌, ◌≢◌, ℕ, ◌<◌, ◌^◌, inl, inr, List, [], ◌∷◌, ◌++◌, sym, ◌∙◌, subst, arith, append_assoc}
 use Rattle.std.proofs.lemmas.List.{append_cancel_left}
 use Rattle.std.proofs.lemmas.List.Elements.{recursion_from_All}
 use Rattle.std.specs.List.{AllByRecursion}
@@ -8,7 +8,7 @@ use Rattle.merlin_model.specs.Networks.{Network}
 use Rattle.std.specs.Prelude.{Bool, true, false, codes}
 use Rattle.std.specs.Str.{bytes_eq}
 use Rattle.std.proofs.lemmas.Slice.Eq.{bytes_eq-Decides}
-use Rattle.merlin_base.specs.Lexemes.{IsDigit, Lacks, IsIdentifier, AreNameBytes, IsNameByte, IsLetter}
+use Rattle.merlin_base.specs.Lexemes.{IsDigit, Lacks, IsIdentifier, IsNameByte}
 use Rattle.merlin_base.proofs.Cutting.{Free, free, free_middle, AreSame, cut_once}
 use Rattle.merlin_base.proofs.Decimals.{decimal_free, is_decimal}
 use Rattle.config_text.specs.Lines.{name_at, function_name, rate_with_unit}

@@ -7,6 +7,7 @@ use Rattle.merlin_model.specs.declared.config.Match.{Match}
 use Rattle.merlin_base.specs.Addresses.{mac_text, ip_text}
 use Rattle.config_lines.specs.declared.fields.Key.{Key}
 use Rattle.config_lines.specs.declared.fields.Key.TheVariants.{InPort, DlSrc, DlDst, DlVlan, DlType, NwProto, NwSrc, NwDst, TpSrc, TpDst}
+use Rattle.config_lines.specs.declared.limits.TheConstants.{MAX_TAG}
 use Rattle.config_lines.specs.Words.{IsWithin, IsPort}
 use Rattle.config_lines.specs.Parts.{IsMacNumber, IsIpNumber, IsByte, IsDouble}
 
@@ -54,7 +55,7 @@ abbrev pub IsValue : Key → ℕ → Type 0
 IsValue InPort n = IsPort n
 IsValue DlSrc n = IsMacNumber n
 IsValue DlDst n = IsMacNumber n
-IsValue DlVlan n = IsWithin 0 4094 n
+IsValue DlVlan n = IsWithin 0 MAX_TAG n
 IsValue DlType n = n ≡ 0
 IsValue NwProto n = IsByte n
 IsValue NwSrc n = IsIpNumber n

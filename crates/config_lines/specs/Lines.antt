@@ -1,5 +1,5 @@
 -- The lines of a result over a network, of each kind: which values have a line.
-use Rattle.std.specs.Prelude.{ℕ, ◌≡◌, ◌≢◌, ◌≤◌, ◌<◌, List, []}
+use Rattle.std.specs.Prelude.{ℕ, ◌≢◌, List, []}
 use Rattle.std.specs.List.{AllByRecursion}
 use Rattle.merlin_model.specs.declared.policy.Symbol.{Symbol}
 use Rattle.merlin_model.specs.declared.config.Rule.{Rule}
@@ -14,6 +14,7 @@ use Rattle.config_text.specs.Words.{line}
 use Rattle.config_text.specs.Lines.{name_at, rule_text, process_text, queue_text, host_text, host_of}
 use Rattle.config_text.specs.Loads.{load_text}
 use Rattle.config_text.specs.Result.{walk_text}
+use Rattle.config_lines.specs.declared.limits.TheConstants.{MAX_QUEUE}
 use Rattle.config_lines.specs.Words.{IsWithin, IsPort, IsTag, IsQueue, IsShort, IsLocation, IsFunction}
 use Rattle.config_lines.specs.Parts.{IsMacNumber, IsDouble, IsMatch, AreActions, IsHostMatch, IsSymbol}
 
@@ -37,7 +38,7 @@ pub record IsProcessLine (net : Network) (p : Process) : Type 0 where
   pub functions : AllByRecursion (IsFunction net) p.functions
   pub next_tag : IsTag p.next_tag
   pub port : IsPort p.port
-  pub queue : IsWithin 0 64 p.queue
+  pub queue : IsWithin 0 MAX_QUEUE p.queue
 
 abbrev pub queue_line : Network → Queue → List ℕ
 queue_line net q = line (queue_text (name_at net q.loc) q)

@@ -1,4 +1,3 @@
-use Rattle.std.proofs.Common.{◌∷◌, ◌++◌, arith}
 use Rattle.std.specs.Fmt.{decimal}
 use Rattle.config_text.specs.Lines.{out_text}
 use Rattle.config_lines.proofs.Then.{no_byte, same_part}

@@ -1,4 +1,4 @@
-use Rattle.std.proofs.Common.{◌≡◌, ◌<◌, ◌^◌, ◌∙◌, ℕ, ap, subst, sym}
+use Rattle.std.proofs.Common.{◌∙◌, ap, subst, sym}
 use Rattle.merlin_model.specs.declared.policy.Field.TheVariants.{EthDst}
 use Rattle.merlin_base.specs.Lexemes.{IsMac}
 use Rattle.merlin_base.specs.Addresses.{mac_text}

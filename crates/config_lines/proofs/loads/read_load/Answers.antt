@@ -1,7 +1,7 @@
-use Rattle.std.proofs.Common.{◌≡◌, ◌∷◌, ◌++◌, ◌∙◌, ℕ, List, ap, sym}
+use Rattle.std.proofs.Common.{◌∷◌, ◌++◌, ◌∙◌, ap, sym}
 use Rattle.std.specs.Prelude.{codes}
 use Rattle.std.specs.Fmt.{decimal}
-use Rattle.config_text.specs.Lines.{name_at, rate_with_unit}
+use Rattle.config_text.specs.Lines.{name_at}
 use Rattle.config_lines.proofs.LoadParts.{parts, start, after_loc, after_port, after_load, from_loc, from_port, from_load, from_capacity}
 use Rattle.config_lines.proofs.loads.read_load.Goals as goal
 

@@ -1,9 +1,9 @@
-use Rattle.std.proofs.Common.{◌≡◌, List, ℕ, ◌∙◌, sym, subst}
+use Rattle.std.proofs.Common.{◌≡◌, ◌∙◌, sym, subst}
 use Rattle.std.specs.List.{AllByRecursion}
 use Rattle.config_text.specs.Lines.{functions_text}
 use Rattle.config_lines.specs.Words.{IsFunction}
 use Rattle.config_lines.proofs.Then.{unlike}
-use Rattle.config_lines.proofs.FunctionTexts.{wrong_name, name_read, names_read, AreReadTo}
+use Rattle.config_lines.proofs.FunctionTexts.{wrong_name, names_read}
 use Rattle.config_lines.proofs.processes.read_functions.Goals as goal
 
 pub returns-in_default-clause-none : goal.returns-in_default-clause-none

@@ -1,4 +1,4 @@
-use Rattle.config_lines.proofs.FrameLines.{line_is, is_line, no_functions}
+use Rattle.config_lines.proofs.FrameLines.{no_functions}
 use Rattle.config_lines.proofs.processes.read_process.Goals as goal
 
 pub returns-in_default-2-clause-none : goal.returns-in_default-2-clause-none

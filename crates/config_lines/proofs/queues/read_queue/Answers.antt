@@ -1,7 +1,7 @@
-use Rattle.std.proofs.Common.{◌≡◌, ◌∷◌, ◌++◌, ◌∙◌, ℕ, List, ap, sym}
+use Rattle.std.proofs.Common.{◌∷◌, ◌++◌, ◌∙◌, ap, sym}
 use Rattle.std.specs.Prelude.{codes}
 use Rattle.std.specs.Fmt.{decimal}
-use Rattle.config_text.specs.Lines.{name_at, rate_with_unit}
+use Rattle.config_text.specs.Lines.{name_at}
 use Rattle.config_lines.proofs.QueueParts.{parts, start, after_loc, after_port, after_queue, from_loc, from_port, from_queue, from_rate}
 use Rattle.config_lines.proofs.queues.read_queue.Goals as goal
 

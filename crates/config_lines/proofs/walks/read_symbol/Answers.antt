@@ -1,4 +1,3 @@
-use Rattle.std.proofs.Common.{ap}
 use Rattle.config_lines.proofs.SymbolTexts.{no_plain, with_colon}
 use Rattle.config_lines.proofs.walks.read_symbol.Goals as goal
 

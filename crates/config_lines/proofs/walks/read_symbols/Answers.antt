@@ -1,4 +1,4 @@
-use Rattle.std.proofs.Common.{◌≡◌, ◌≢◌, List, [], map, sym, subst}
+use Rattle.std.proofs.Common.{◌≡◌, ◌≢◌, [], map, sym, subst}
 use Rattle.std.specs.List.{AllByRecursion, join_with_byte}
 use Rattle.config_text.specs.Result.{symbol_text}
 use Rattle.config_lines.specs.Parts.{IsSymbol}

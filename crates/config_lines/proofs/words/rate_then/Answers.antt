@@ -1,7 +1,7 @@
-use Rattle.std.proofs.Common.{◌≡◌, ◌∷◌, ◌++◌, ◌∙◌, ℕ, List, ap, append_assoc, sym}
+use Rattle.std.proofs.Common.{◌∷◌, ◌++◌, ◌∙◌, ap, sym}
 use Rattle.std.specs.Prelude.{codes}
 use Rattle.std.specs.Fmt.{decimal}
-use Rattle.config_lines.proofs.Then.{no_byte, same_part, unit_free, rate_cut, behind_part, behind_word}
+use Rattle.config_lines.proofs.Then.{no_byte, same_part, unit_free, rate_cut, behind_word}
 use Rattle.config_lines.proofs.words.rate_then.Goals as goal
 
 pub returns-in_err-word-clause-none : goal.returns-in_err-word-clause-none

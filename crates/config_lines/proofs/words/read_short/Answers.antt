@@ -1,4 +1,4 @@
-use Rattle.std.proofs.Common.{◌≡◌, ℕ, ◌<◌, ◌≤◌, ◌∙◌, sym, arith}
+use Rattle.std.proofs.Common.{◌∙◌, sym, arith}
 use Rattle.merlin_base.proofs.Decimals.{decimal_same}
 use Rattle.config_lines.proofs.words.read_short.Goals as goal
 

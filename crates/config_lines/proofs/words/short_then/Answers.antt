@@ -1,4 +1,4 @@
-use Rattle.std.proofs.Common.{◌<◌, ◌≤◌, arith}
+use Rattle.std.proofs.Common.{arith}
 use Rattle.std.specs.Fmt.{decimal}
 use Rattle.config_lines.proofs.Then.{no_byte, same_part, short_free}
 use Rattle.config_lines.proofs.words.short_then.Goals as goal

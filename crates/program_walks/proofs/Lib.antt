@@ -1,0 +1,5 @@
+pub mod Turning
+pub mod Going
+pub mod Leasts
+pub mod Marked
+pub mod Bridging

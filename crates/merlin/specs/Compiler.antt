@@ -1,5 +1,5 @@
 -- What a policy compiles to over a topology, and what is refused.
-use Rattle.std.specs.Prelude.{◌≡◌, ◌++◌, ℕ, ⊤, List, [], Option, None, Some, option_map, position, bytes_eq, codes}
+use Rattle.std.specs.Prelude.{◌≡◌, ◌++◌, ◌-◌, ℕ, ⊤, List, [], Option, None, Some, option_map, position, bytes_eq, codes}
 use Rattle.std.specs.List.{AllZip}
 use Rattle.std.specs.Option.{option_or}
 use Rattle.std.specs.Fmt.{decimal}
@@ -12,6 +12,7 @@ use Rattle.merlin_model.specs.Policies.{Policy as NumberedPolicy, Statement as N
 use Rattle.merlin_model.specs.Assignments.{IsLeast, value_of}
 use Rattle.merlin_model.specs.Headline.{DeliversPackets, MeetsGuarantees, KeepsCaps, HasOneLinePerClass}
 use Rattle.merlin_model.specs.Results.{IsAcceptedPolicy}
+use Rattle.merlin_model.specs.Tests.{HasNoMiddlebox}
 use Rattle.policy_grammar.specs.declared.written.RawPath.{RawPath, Dot, Star}
 use Rattle.policy_grammar.specs.NumberedPaths.{first_unknown, numbered}
 use Rattle.policy_expansion.specs.declared.policy.Statement.{Statement}
@@ -19,10 +20,9 @@ use Rattle.policy_expansion.specs.declared.policy.Policy.{Policy}
 use Rattle.policy_parser.specs.declared.fault.PolicyFault.{PolicyFault}
 use Rattle.policy_parser.specs.declared.fault.PolicyFault.TheVariants as faults
 use Rattle.policy_parser.specs.Policies.{IsPolicyText, IsRefused as IsRefusedPolicy}
-use Rattle.topology.specs.Format.{IsTopology}
-use Rattle.topology.specs.declared.fault.NetFault.{NetFault}
-use Rattle.topology.specs.declared.fault.NetFault.TheVariants as net_faults
-use Rattle.topology.specs.Faults.{Refuses as IsRefusedTopology}
+use Rattle.topology_rules.specs.declared.fault.NetFault.{NetFault}
+use Rattle.topology_rules.specs.declared.fault.NetFault.TheVariants as net_faults
+use Rattle.topology_rules.specs.Faults.{IsTopology, Refuses as IsRefusedTopology}
 use Rattle.plain_compile.specs.Config.{IsPlainConfig}
 use Rattle.merlin.specs.declared.compiler.Compiled.{Compiled}
 use Rattle.merlin.specs.declared.compiler.EarlyFault.{EarlyFault}
@@ -58,7 +58,8 @@ pub record IsPolicyOf (net : Network) (raw : Policy) (policy : NumberedPolicy) :
   pub default_path : IsDefaultOf net raw.default_path policy.default_path
   pub terms : policy.terms ≡ raw.formula.terms
 
--- What is built so far: the policy with no statement, no term, and a default that allows every way.
+-- What is built so far: the policy with no statement, no term, and a default that allows every way,
+-- over a network of hosts and switches.
 
 -- the path `.*`
 abbrev pub every_way : RawPath
@@ -71,25 +72,43 @@ plain_policy =
 abbrev pub IsSupported : Policy → Type 0
 IsSupported raw = raw ≡ plain_policy
 
--- the text stands for a policy that is built
-pub record IsSupportedText (text : List ℕ) : Type 0 where
-  pub raw : Policy
-  pub stands : IsPolicyText text raw
-  pub supported : IsSupported raw
+-- a network with neither a middlebox nor a function
+pub record IsPlainNetwork (net : Network) : Type 0 where
+  pub no_middlebox : HasNoMiddlebox net
+  pub no_function : net.functions ≡ []
 
--- the text stands for a policy that is not built yet
-pub record IsUnsupportedText (text : List ℕ) : Type 0 where
+pub record IsBuilt (raw : Policy) (net : Network) : Type 0 where
+  pub policy : IsSupported raw
+  pub network : IsPlainNetwork net
+
+-- Two texts stand for a policy over names and for a network.
+pub record AreRead (policy topology : List ℕ) (raw : Policy) (net : Network) : Type 0 where
+  pub stands : IsPolicyText policy raw
+  pub network : IsTopology topology net
+
+-- what two texts stand for is built
+pub record AreBuilt (policy topology : List ℕ) (net : Network) : Type 0 where
   pub raw : Policy
-  pub stands : IsPolicyText text raw
-  pub other : ¬ IsSupported raw
+  pub read : AreRead policy topology raw net
+  pub built : IsBuilt raw net
+
+-- the topology stands for a network over which the policy is built
+abbrev pub IsBuiltOver : Policy → List ℕ → Network → Type 0
+IsBuiltOver raw topology net = IsTopology topology net × IsBuilt raw net
+
+-- what two texts stand for is not built yet
+pub record AreUnbuilt (policy topology : List ℕ) : Type 0 where
+  pub raw : Policy
+  pub net : Network
+  pub read : AreRead policy topology raw net
+  pub other : ¬ IsBuilt raw net
 
 -- What two texts stand for: a network, and a policy over it.
 pub record IsInput (policy_text topology_text : List ℕ) (net : Network) (policy : NumberedPolicy)
     : Type 0 where
   pub raw : Policy
-  pub stands : IsPolicyText policy_text raw
-  pub supported : IsSupported raw
-  pub network : IsTopology topology_text net
+  pub read : AreRead policy_text topology_text raw net
+  pub built : IsBuilt raw net
   pub named : IsPolicyOf net raw policy
 
 -- The result is that of the policy over the network of the topology. It keeps the promise of a
@@ -112,12 +131,24 @@ pub record IsCompiledFrom (policy_text topology_text : List ℕ) (objective : Ob
   pub least : IsLeast compiled.net policy ends objective []
   pub value_is : compiled.value ≡ value_of compiled.net policy ends objective []
 
--- Why nothing is compiled: the policy is looked at first, then the topology.
+-- Why there is no network over which the policy is built.
+abbrev pub IsFaultOver : Policy → List ℕ → EarlyFault → Type 0
+IsFaultOver raw topology (early.Policy fault) = ⊥
+IsFaultOver raw topology (early.Net fault) = IsRefusedTopology fault topology
+IsFaultOver raw topology early.Unbuilt = (net : Network) × IsTopology topology net × (¬ IsBuilt raw net)
+IsFaultOver raw topology early.OutOfMemory = ⊤
+
+-- Why a topology is not read: the policy is read before.
+pub record IsRefusedAfter (policy topology : List ℕ) (fault : NetFault) : Type 0 where
+  pub raw : Policy
+  pub stands : IsPolicyText policy raw
+  pub refused : IsRefusedTopology fault topology
+
+-- Why nothing is compiled: the policy is read first, then the topology, and both are looked at then.
 abbrev pub IsEarlyFault : EarlyFault → List ℕ → List ℕ → Type 0
 IsEarlyFault (early.Policy fault) policy topology = IsRefusedPolicy fault policy
-IsEarlyFault early.Unbuilt policy topology = IsUnsupportedText policy
-IsEarlyFault (early.Net fault) policy topology =
-    IsSupportedText policy × IsRefusedTopology fault topology
+IsEarlyFault (early.Net fault) policy topology = IsRefusedAfter policy topology fault
+IsEarlyFault early.Unbuilt policy topology = AreUnbuilt policy topology
 IsEarlyFault early.OutOfMemory policy topology = ⊤
 
 -- memory ran out
@@ -144,9 +175,23 @@ policy_fault_text (faults.TooManyStatements count) = codes "more than 4096 state
 policy_fault_text (faults.DuplicateId id) = codes "duplicate id " ++ id
 policy_fault_text faults.OutOfMemory = []
 
+-- the count is the limit and one more
+abbrev pub excess_text : List ℕ → ℕ → List ℕ
+excess_text what count = (codes "more than " ++ (decimal (count - 1) ++ codes " ")) ++ what
+
+abbrev pub shared_port_text : List ℕ → ℕ → List ℕ
+shared_port_text name port = codes "duplicate port " ++ (name ++ (codes " " ++ decimal port))
+
 abbrev pub net_fault_text : NetFault → List ℕ
 net_fault_text net_faults.Json = codes "topology json"
-net_fault_text net_faults.Unbuilt = codes "unbuilt"
+net_fault_text (net_faults.Shape what) = codes "topology shape " ++ what
+net_fault_text (net_faults.TooLarge what count) = excess_text what count
+net_fault_text (net_faults.DuplicateName name) = codes "duplicate name " ++ name
+net_fault_text (net_faults.DuplicateAddress name) = codes "duplicate address " ++ name
+net_fault_text (net_faults.DuplicatePort name port) = shared_port_text name port
+net_fault_text (net_faults.ParallelLink link) = codes "parallel link " ++ decimal link
+net_fault_text (net_faults.HostLink name) = codes "host link " ++ name
+net_fault_text (net_faults.Placement name) = codes "placement " ++ name
 net_fault_text net_faults.OutOfMemory = []
 
 abbrev pub early_fault_text : EarlyFault → List ℕ

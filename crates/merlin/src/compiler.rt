@@ -1,10 +1,11 @@
 //! From the bytes of a policy and a topology to a result.
-ghost use Rattle.std.specs.Prelude.{◌≡◌, [], ℕ, List, IfOk, IfErr, OnOk, IsTrue, ◌↔◌};
+ghost use Rattle.std.specs.Prelude.{◌≡◌, [], ℕ, List, IfOk, IfErr, IsTrue, ◌↔◌};
 ghost use Rattle.config_text.specs.Lines.{IsConfigOver};
 ghost use Rattle.merlin_model.specs.Assignments.{value_of};
+ghost use Rattle.merlin_model.specs.Tests.{HasNoMiddlebox};
 ghost use Rattle.rules_model.specs.Plain.{any_path_policy};
-ghost use Rattle.merlin.specs.Compiler.{every_way, IsSupported, IsSupportedText};
-ghost use Rattle.merlin.specs.Compiler.{IsCompiledFrom, IsEarlyFault, IsWantOfMemory};
+ghost use Rattle.merlin.specs.Compiler.{every_way, IsSupported, IsPlainNetwork, AreBuilt, IsBuiltOver};
+ghost use Rattle.merlin.specs.Compiler.{IsCompiledFrom, IsFaultOver, IsEarlyFault, IsWantOfMemory};
 ghost use Rattle.merlin.specs.declared.compiler.EarlyFault.TheVariants as early;
 
 use config_text::Config;
@@ -13,7 +14,7 @@ use merlin_model::policy::{Objective, Value};
 use plain_compile::configuration_of;
 use policy_parser::{Policy, PolicyFault, RawPath, parse};
 use std::alloc::Global;
-use topology::{NetFault, Topology, read};
+use topology::{NetFault, Place, Topology, read};
 
 /// A network and what its policy compiles to.
 #[derive(Drop)]
@@ -24,7 +25,7 @@ pub struct Compiled {
     pub config: Config,
 }
 
-/// Why nothing is compiled. `Unbuilt`: the policy asks for what is not built yet.
+/// Why nothing is compiled. `Unbuilt`: the policy or the network asks for what is not built yet.
 #[derive(Drop)]
 pub enum EarlyFault {
     Policy(PolicyFault),
@@ -92,18 +93,45 @@ fn is_supported(policy: &Policy) -> bool
     is_every_way && policy.statements.is_empty() && policy.formula.terms.is_empty()
 }
 
-// Reads a policy that is built.
-fn read_supported(alloc: Global, text: &[u8]) -> Result<(), EarlyFault>
-    ensures ok { OnOk result (IsSupportedText text.now) }
-    ensures err { IfErr result (λ fault.
-        (topology : List ℕ) → IsEarlyFault fault text.now topology) }
+// Whether no location of the network is a middlebox.
+fn has_no_middlebox(net: &Topology) -> bool
+    ensures { IsTrue result ↔ HasNoMiddlebox net.now }
 {
-    let policy = parse(alloc, text)?;
-    if is_supported(&policy) {
-        Ok(())
+    for loc in 0..net.locations() {
+        if net.place(loc) == Place::Middlebox {
+            return false;
+        }
+    }
+    true
+}
+
+// Whether the network is one of hosts and switches.
+fn is_plain(net: &Topology) -> bool
+    ensures { IsTrue result ↔ IsPlainNetwork net.now }
+{
+    net.functions().is_empty() && has_no_middlebox(net)
+}
+
+// The network of the topology, if the policy is built over it.
+fn read_over(alloc: Global, policy: &Policy, topology: &[u8]) -> Result<Topology, EarlyFault>
+    ensures ok { IfOk result (IsBuiltOver policy.now topology.now) }
+    ensures err { IfErr result (IsFaultOver policy.now topology.now) }
+{
+    let net = read(alloc, topology)?;
+    if is_supported(policy) && is_plain(&net) {
+        Ok(net)
     } else {
         Err(EarlyFault::Unbuilt)
     }
+}
+
+// Reads a policy, and then the network that it is built over.
+fn read_built(alloc: Global, policy: &[u8], topology: &[u8]) -> Result<Topology, EarlyFault>
+    ensures ok { IfOk result (AreBuilt policy.now topology.now) }
+    ensures err { IfErr result (λ fault. IsEarlyFault fault policy.now topology.now) }
+{
+    let policy = parse(alloc, policy)?;
+    read_over(alloc, &policy, topology)
 }
 
 // No load of the capacity of the first link, or of 1 without links.
@@ -131,8 +159,9 @@ fn empty_value(net: &Topology, objective: Objective) -> Value
 /// What the policy compiles to over the topology, for an objective.
 ///
 /// # Errors
-/// The first of: what `parse` says of the policy; `Unbuilt` where it has a statement, a term, no
-/// default or one that does not allow every way; what `read` says of the topology.
+/// The first of: what `parse` says of the policy; what `read` says of the topology; `Unbuilt` where the
+/// policy has a statement, a term, no default or one that does not allow every way, or the network has a
+/// middlebox or a packet function.
 pub fn compile_policy(
     alloc: Global,
     policy: &[u8],
@@ -144,8 +173,7 @@ pub fn compile_policy(
     ensures over { IfOk result (λ compiled. IsConfigOver compiled.net compiled.config) }
 {
     rules_model::laws::plain_reserves_nothing();
-    read_supported(alloc, policy)?;
-    let net = read(alloc, topology)?;
+    let net = read_built(alloc, policy, topology)?;
     let value = empty_value(&net, objective);
     let config = configuration_of(alloc, &net)?;
     Ok(Compiled {

@@ -10,7 +10,7 @@ use crate::texts::{parted, text_of};
 use merlin::{Compiled, compile_policy};
 use merlin_model::policy::Objective;
 use packet_model::{Packet, print_packet};
-use packet_trace::{End, Trace, trace_plain};
+use packet_trace::{End, Trace, Tracer, declared};
 use std::alloc::Global;
 use topology::Topology;
 
@@ -60,11 +60,12 @@ fn describe(alloc: Global, out: &mut Lines, net: &Topology, trace: &Trace) {
 }
 
 fn follow(alloc: Global, compiled: &Compiled, host: usize, packet: Packet, out: &mut Lines) {
-    if !is_host(&compiled.net, host) || !compiled.config.processes.is_empty() {
-        out.answer(1, "no trace");
+    if !is_host(&compiled.net, host) {
+        out.answer(1, "no host");
         return;
     }
-    match trace_plain(alloc, &compiled.net, &compiled.config, host, packet) {
+    let tracer = Tracer::new(&compiled.net, &compiled.config, declared);
+    match tracer.trace(alloc, host, packet) {
         Ok(trace) => describe(alloc, out, &compiled.net, &trace),
         Err(_) => out.cut(),
     }

@@ -1,11 +1,11 @@
 -- What symbols take through a product is a trail that crosses what they cross.
-use Rattle.std.proofs.Common.{◌≡◌, ◌≢◌, ℕ, zero, suc, ◌+◌, ◌*◌, ◌≤◌, ◌<◌, ◌==◌, ◌&&◌, not, ◌⊎◌, inl, inr, Bool, true, false, cond, List, [], ◌∷◌, ◌++◌, map, length, None, Some, slice_get, get_or, refl, sym, ◌∙◌, ap, ap₂, subst, arith}
+use Rattle.std.proofs.Common.{◌≡◌, ◌≢◌, ℕ, zero, suc, ◌+◌, ◌*◌, ◌≤◌, ◌==◌, ◌&&◌, not, ◌⊎◌, inl, inr, Bool, true, false, cond, List, [], ◌∷◌, ◌++◌, map, length, None, Some, slice_get, refl, sym, ◌∙◌, ap, ap₂, subst, arith}
 use Rattle.std.specs.Option.{option_map_or}
 use Rattle.merlin_model.specs.declared.network.DirectedLink.{DirectedLink}
 use Rattle.merlin_model.specs.declared.policy.Symbol.{Symbol}
-use Rattle.merlin_model.specs.Networks.{Network, IsNetwork, directed_links, IsHost}
+use Rattle.merlin_model.specs.Networks.{Network, directed_links, IsHost}
 use Rattle.merlin_model.specs.Words.{at, MayFollow, GoesOn, crosses, crossings}
-use Rattle.merlin_model.proofs.Members.{In, in_from, in_to, in_map, map_in}
+use Rattle.merlin_model.proofs.Members.{in_from, in_to, in_map, map_in}
 use Rattle.rules_model.specs.Products.{SymbolAutomaton, Vertex, loc_of, start_of, ending_state, IsEdge, IsLast, LeadsToEnd, IsOnWayBetween}
 use Rattle.rules_model.proofs.Ways.{vertex-same}
 use Rattle.cutoff_program.specs.declared.flow.Variable.{Variable}
@@ -16,8 +16,8 @@ use Rattle.cutoff_program.proofs.Lists.{none_some, some_some}
 use Rattle.cutoff_program.proofs.Following.{sum-cons}
 use Rattle.cutoff_program.proofs.Places.{get-in, in-get, on-is}
 use Rattle.cutoff_program.proofs.Ways.{crossings-cons, word-way, between-more}
-use Rattle.cutoff_program.proofs.Flights.{IsLaid, inside}
-use Rattle.program_walks.specs.Marks.{symbol_in, LeadsToSymbol, IsNextBy, Follows}
+use Rattle.cutoff_program.proofs.Flights.{IsLaid}
+use Rattle.program_walks.specs.Marks.{symbol_in, IsNextBy, Follows}
 
 get-first : {X : Type 0} (xs ys : List X) (k : ℕ) (x : X) → slice_get xs k ≡ Some x → slice_get (xs ++ ys) k ≡ Some x
 get-first [] ys k x e = absurd (none_some e)

@@ -1,5 +1,5 @@
 -- Going on by places: the way is one, and comes to no vertex twice.
-use Rattle.std.proofs.Common.{◌≡◌, ◌≢◌, ℕ, zero, suc, ◌+◌, ◌≤◌, ◌<◌, ◌⊎◌, inl, inr, Bool, true, List, [], ◌∷◌, ◌++◌, length, reverse, length-append, append_assoc, append-nil, Option, None, Some, slice_get, Contains, refl, sym, ◌∙◌, ap, ap₂, subst, arith}
+use Rattle.std.proofs.Common.{◌≡◌, ◌≢◌, ℕ, zero, suc, ◌+◌, ◌≤◌, ◌<◌, inl, inr, Bool, true, List, [], ◌∷◌, ◌++◌, length, reverse, length-append, append_assoc, append-nil, Option, None, Some, slice_get, refl, sym, ◌∙◌, ap, subst, arith}
 use Rattle.std.proofs.lemmas.List.Sums.{sum_by_push}
 use Rattle.std.proofs.lemmas.Grind.{reverse_onto}
 use Rattle.std.specs.Option.{option_map_or}
@@ -8,8 +8,7 @@ use Rattle.merlin_model.specs.Networks.{AreDifferent}
 use Rattle.merlin_model.specs.Programs.{is_chosen}
 use Rattle.merlin_model.proofs.Members.{In, in_from}
 use Rattle.graph_search.specs.declared.graph.Edge.{Edge}
-use Rattle.graph_search.specs.Graphs.{GoesBack, IsPath as IsEdgePath, cost_of_path, cost_of_edge, known_at}
-use Rattle.graph_search.proofs.Following.{cost-cons}
+use Rattle.graph_search.specs.Graphs.{GoesBack, IsPath as IsEdgePath, cost_of_path, cost_of_edge}
 use Rattle.cutoff_program.specs.Flows.{variables_of, cost_of_variable}
 use Rattle.cutoff_program.specs.declared.flow.Problem.{Problem}
 use Rattle.cutoff_program.specs.declared.flow.Variable.{Variable}
@@ -48,9 +47,10 @@ apart-all v (u ∷ us) h = ((λ e. h (inl e)), apart-all v us (λ i. h (inr i)))
 
 pub by-different : (variables : List Variable) (numbers : List ℕ) (next : List (Option ℕ)) (v : ℕ) (ks : List ℕ) → GoesBy variables numbers next v ks → AreDifferent (v ∷ comes_to variables ks)
 by-different variables numbers next v [] g = (tt, tt)
-by-different variables numbers next v (k ∷ ks) g =
-    (apart-all v (comes_to variables (k ∷ ks)) (λ i. let r = by-later variables numbers next v v (k ∷ ks) g i in let e = by-lengths variables numbers next v (k ∷ ks) r.0 g r.1 in let h = r.2 in let bad : ⊥ = omega arith in bad),
-    subst AreDifferent (sym (comes_to-cons variables k ks g.3.0 g.3.1)) (by-different variables numbers next g.3.0.edge.to ks g.3.2))
+by-different variables numbers next v (k ∷ ks) g = (
+  apart-all v (comes_to variables (k ∷ ks)) (λ i. let r = by-later variables numbers next v v (k ∷ ks) g i in let e = by-lengths variables numbers next v (k ∷ ks) r.0 g r.1 in let h = r.2 in let bad : ⊥ = omega arith in bad),
+  subst AreDifferent (sym (comes_to-cons variables k ks g.3.0 g.3.1)) (by-different variables numbers next g.3.0.edge.to ks g.3.2),
+)
 
 -- What stands at a place of two lists.
 

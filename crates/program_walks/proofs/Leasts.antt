@@ -1,17 +1,16 @@
 -- What the search finds is a least path.
-use Rattle.std.proofs.Common.{◌≡◌, ℕ, zero, suc, ◌+◌, ◌-◌, ◌*◌, ◌^◌, ◌≤◌, ◌<◌, Bool, true, List, [], ◌∷◌, length, max, Option, None, Some, slice_get, sum_by, refl, sym, ◌∙◌, ap, subst, arith}
+use Rattle.std.proofs.Common.{◌≡◌, ℕ, suc, ◌+◌, ◌*◌, ◌^◌, ◌≤◌, ◌<◌, Bool, List, [], ◌∷◌, length, Option, None, Some, sum_by, refl, sym, ◌∙◌, ap, subst, arith}
 use Rattle.std.proofs.lemmas.List.Sums.{sum_by-cons}
 use Rattle.std.specs.List.{AllByRecursion}
-use Rattle.merlin_model.specs.Programs.{is_chosen}
 use Rattle.graph_search.specs.declared.paths.Potentials.{Potentials}
 use Rattle.graph_search.specs.declared.graph.Edge.{Edge}
 use Rattle.graph_search.specs.Graphs.{AreEdgesAmong, ArePotentials, known_at, cost_of_all}
-use Rattle.cutoff_program.specs.Flows.{variables_of, last_of, cost_of_variable, taken_from}
+use Rattle.cutoff_program.specs.Flows.{variables_of, last_of, cost_of_variable}
 use Rattle.cutoff_program.specs.declared.flow.Flow.{Flow}
 use Rattle.cutoff_program.specs.declared.flow.Problem.{Problem}
 use Rattle.cutoff_program.specs.declared.flow.Variable.{Variable}
 use Rattle.cutoff_program.specs.Limits.{IsProblem}
-use Rattle.cutoff_program.specs.Trails.{IsTrailOf, IsPath, sum_along, comes_to, point_with}
+use Rattle.cutoff_program.specs.Trails.{IsTrailOf, IsPath, sum_along, point_with}
 use Rattle.cutoff_program.specs.Easy.{IsTrailThrough}
 use Rattle.cutoff_program.proofs.Lists.{all_so, within_length}
 use Rattle.cutoff_program.proofs.Following.{sum-cons}
@@ -19,7 +18,6 @@ use Rattle.cutoff_program.proofs.Points.{point-sum, trail-of, trail-different, I
 use Rattle.cutoff_program.proofs.Sums.{taken-most}
 use Rattle.cutoff_program.proofs.Variables.{costs-small}
 use Rattle.program_walks.specs.declared.backwards.Turned.{Turned}
-use Rattle.program_walks.specs.declared.paths.LeastPath.{LeastPath}
 use Rattle.program_walks.specs.Turned.{AreTurned}
 use Rattle.program_walks.specs.Paths.{IsChosenIn, IsLeastPath}
 use Rattle.program_walks.specs.Followed.{IsWayBy}

@@ -3,3 +3,6 @@ pub mod Going
 pub mod Leasts
 pub mod Marked
 pub mod Bridging
+pub mod Taking
+pub mod Together
+pub mod Spelling

@@ -1,13 +1,12 @@
 -- Taking the variables of walks.
-use Rattle.std.proofs.Common.{◌≡◌, ◌≢◌, ℕ, zero, suc, ◌+◌, ◌≤◌, ◌<◌, ◌==◌, ◌⊎◌, inl, inr, Bool, true, false, cond, List, [], ◌∷◌, ◌++◌, length, length-set, replicate, drop, take, Option, None, Some, slice_get, slice_set, get_or, get_or-set_same, get_or-set_other, append_assoc, append-nil, refl, sym, ◌∙◌, ap, ap₂, subst, arith}
-use Rattle.std.proofs.lemmas.List.{get_or_past}
+use Rattle.std.proofs.Common.{◌≡◌, ◌≢◌, ℕ, zero, suc, ◌+◌, ◌≤◌, ◌<◌, ◌==◌, inl, inr, Bool, true, false, List, [], ◌∷◌, ◌++◌, length, length-set, replicate, drop, Option, None, Some, slice_get, slice_set, get_or, get_or-set_same, get_or-set_other, append_assoc, append-nil, refl, sym, ◌∙◌, ap, subst, arith}
 use Rattle.std.specs.List.{AllByRecursion}
 use Rattle.merlin_model.specs.declared.policy.Symbol.{Symbol}
 use Rattle.merlin_model.specs.Programs.{is_chosen}
 use Rattle.cutoff_program.specs.Flows.{taken_from, count_if}
 use Rattle.cutoff_program.specs.declared.flow.Variable.{Variable}
 use Rattle.cutoff_program.specs.Trails.{edges_of, sum_along, plus_term, point_with}
-use Rattle.cutoff_program.proofs.Lists.{some_some, none_some, within_length}
+use Rattle.cutoff_program.proofs.Lists.{some_some, none_some}
 use Rattle.cutoff_program.proofs.Following.{earlier-count}
 use Rattle.program_walks.specs.Marks.{LeadsToSymbol, IsNextBy, Follows, with_more, TakesTrail, TrailsOf, TakeTrails}
 
@@ -62,9 +61,10 @@ more-keeps point (k ∷ ks) j c = more-keeps (slice_set point k true) ks j (set-
 
 pub more-chosen : (point : List Bool) (ks : List ℕ) → AllByRecursion (λ k. k < length point) ks → AllByRecursion (λ k. is_chosen (with_more point ks) k ≡ true) ks
 more-chosen point [] below = tt
-more-chosen point (k ∷ ks) below =
-    (more-keeps (slice_set point k true) ks k (get_or-set_same point k true false below.0),
-    more-chosen (slice_set point k true) ks (all-length ks (sym (length-set point k true)) below.1))
+more-chosen point (k ∷ ks) below = (
+  more-keeps (slice_set point k true) ks k (get_or-set_same point k true false below.0),
+  more-chosen (slice_set point k true) ks (all-length ks (sym (length-set point k true)) below.1),
+)
   where
     all-length : (js : List ℕ) {m n : ℕ} → m ≡ n → AllByRecursion (λ j. j < m) js → AllByRecursion (λ j. j < n) js
     all-length js e all = subst (λ m. AllByRecursion (λ j. j < m) js) e all
@@ -195,7 +195,7 @@ trails-snoc variables n (g ∷ symbols) [] (ks ∷ trails) first walk trail to m
 trails-snoc variables n [] [] (ks ∷ trails) first walk trail to m t e f = absurd t
 trails-snoc variables n (g ∷ symbols) (w ∷ walks) [] first walk trail to m t e f = absurd t
 
-edges-snoc : (trails : List (List ℕ)) (trail : List ℕ) → edges_of (trails ++ trail ∷ []) ≡ edges_of trails ++ trail
+pub edges-snoc : (trails : List (List ℕ)) (trail : List ℕ) → edges_of (trails ++ trail ∷ []) ≡ edges_of trails ++ trail
 edges-snoc [] trail = append-nil trail
 edges-snoc (ks ∷ trails) trail = ap (λ es. ks ++ es) (edges-snoc trails trail) ∙ sym (append_assoc ks (edges_of trails) trail)
 
@@ -207,7 +207,7 @@ walk-more variables symbols walks first walk old new n t e m = record {
   chosen = m.chosen ∙ ap (λ p. with_more p m.trail) t.chosen ∙ sym (more-append (replicate (length variables) false) (edges_of t.trails) m.trail) ∙ ap (with_more (replicate (length variables) false)) (sym (edges-snoc t.trails m.trail));
 }
 
-replicate-length : (size : ℕ) → length (replicate size false) ≡ size
+pub replicate-length : (size : ℕ) → length (replicate size false) ≡ size
 replicate-length zero = refl
 replicate-length (suc size) = ap suc (replicate-length size)
 

@@ -1,20 +1,19 @@
 -- Adding the next variable to the edges that lead backwards.
-use Rattle.std.proofs.Common.{◌≡◌, ◌≢◌, ℕ, zero, suc, ◌+◌, ◌*◌, ◌^◌, ◌≤◌, ◌<◌, ◌==◌, nat_lt, ◌⊎◌, inl, inr, Bool, true, false, List, [], ◌∷◌, ◌++◌, length, take, Some, slice_get, get_or, Contains, refl, sym, ◌∙◌, ap, subst, arith}
+use Rattle.std.proofs.Common.{◌≡◌, ◌≢◌, ℕ, zero, suc, ◌+◌, ◌*◌, ◌^◌, ◌≤◌, ◌<◌, ◌==◌, inl, Bool, true, false, List, [], ◌∷◌, ◌++◌, length, Some, slice_get, get_or, Contains, refl, sym, ◌∙◌, ap, subst, arith}
 use Rattle.std.proofs.lemmas.List.Elements.{Contains-append_left, Contains-append_right}
 use Rattle.std.proofs.lemmas.List.Sums.{sum_by_push}
-use Rattle.std.specs.List.{AllByRecursion, AllZip}
+use Rattle.std.specs.List.{AllZip}
 use Rattle.merlin_model.specs.Programs.{is_chosen}
-use Rattle.merlin_model.proofs.Members.{In, in_to, all_in}
+use Rattle.merlin_model.proofs.Members.{in_to, all_in}
 use Rattle.graph_search.specs.declared.graph.Edge.{Edge}
 use Rattle.graph_search.specs.Graphs.{AreEdgesAmong, cost_of_all}
 use Rattle.graph_search.proofs.Places.{all-snoc}
 use Rattle.cutoff_program.specs.Flows.{variables_of, last_of, cost_of_variable}
-use Rattle.cutoff_program.specs.declared.flow.FlowEdge.{FlowEdge}
 use Rattle.cutoff_program.specs.declared.flow.Flow.{Flow}
 use Rattle.cutoff_program.specs.declared.flow.Problem.{Problem}
 use Rattle.cutoff_program.specs.declared.flow.Variable.{Variable}
 use Rattle.cutoff_program.specs.Limits.{IsEdgeOf, IsFlow, IsProblem}
-use Rattle.cutoff_program.proofs.Lists.{some_some, none_some}
+use Rattle.cutoff_program.proofs.Lists.{some_some}
 use Rattle.cutoff_program.proofs.Following.{each-at}
 use Rattle.cutoff_program.proofs.Variables.{costs-small}
 use Rattle.cutoff_program.proofs.Places.{get-in}

@@ -1,5 +1,5 @@
 -- Least paths of a flow over chosen variables.
-use Rattle.std.specs.Prelude.{ℕ, ◌≡◌, ◌≤◌, Bool, true, List, ⊤}
+use Rattle.std.specs.Prelude.{ℕ, ◌≡◌, ◌≤◌, Bool, true, List}
 use Rattle.std.specs.Prelude.{MatchOption, Option}
 use Rattle.std.specs.List.{AllByRecursion}
 use Rattle.merlin_model.specs.Programs.{is_chosen}

@@ -8,7 +8,7 @@ use Rattle.merlin_model.specs.declared.policy.Value.{Value}
 use Rattle.merlin_model.specs.Networks.{Network, IsNetwork, directed_links}
 use Rattle.merlin_model.specs.Policies.{Policy}
 use Rattle.merlin_model.specs.Assignments.{IsAssignment, IsFeasible, value_of}
-use Rattle.merlin_model.specs.Programs.{is_chosen, IsSolution}
+use Rattle.merlin_model.specs.Programs.{IsSolution}
 use Rattle.rules_model.specs.Products.{SymbolAutomaton}
 use Rattle.cutoff_program.specs.Flows.{variables_of, last_of, program_at, cutoff_of, takes, is_below}
 use Rattle.cutoff_program.specs.declared.flow.Flow.{Flow}
@@ -99,6 +99,19 @@ AreWalksOfPoint problem symbols point walks =
 abbrev pub word_over : List Variable → List Symbol → List ℕ → List Symbol
 word_over variables symbols path = map (symbol_in symbols) (0 ∷ comes_to variables path)
 
-abbrev pub words_over : List Variable → List (List Symbol) → List (List ℕ) → List (List Symbol)
-words_over variables (first ∷ symbols) (path ∷ paths) = word_over variables first path ∷ words_over variables symbols paths
-words_over variables _ _ = []
+-- the word of a path of the flow over chosen variables, or an empty one where no trail leads to its end
+abbrev pub IsWordIf : Problem → List Bool → ℕ → Flow → List Symbol → List Symbol → Type 0
+IsWordIf problem point n flow symbols walk =
+    ((path : List ℕ) × IsPathWithin problem point n flow path × (walk ≡ word_over (variables_of problem) symbols path))
+    ⊎ ((trail : List ℕ) → ¬ IsTrailThrough problem (IsChosenIn point) n flow trail)
+
+abbrev pub IsWordAt : Problem → List Bool → ℕ → List Symbol → List Symbol → Type 0
+IsWordAt problem point n symbols walk =
+    (flow : Flow) → slice_get problem.flows n ≡ Some flow → IsWordIf problem point n flow symbols walk
+
+-- such words of flows, the first of which has number n
+abbrev pub AreWordsIf : Problem → List Bool → ℕ → List Flow → List (List Symbol) → List (List Symbol) → Type 0
+AreWordsIf problem point n [] [] [] = Unit {0}
+AreWordsIf problem point n (flow ∷ flows) (first ∷ symbols) (walk ∷ walks) =
+    IsWordIf problem point n flow first walk × AreWordsIf problem point (n + 1) flows symbols walks
+AreWordsIf problem point n _ _ _ = ⊥

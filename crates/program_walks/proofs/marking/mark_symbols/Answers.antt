@@ -1,4 +1,4 @@
-use Rattle.std.proofs.Common.{◌≡◌, ◌+◌, true, List, take, length, length-set, None, Some, slice_get, sym, ◌∙◌, ap, subst}
+use Rattle.std.proofs.Common.{◌+◌, true, take, length, length-set, None, sym, ◌∙◌, ap, subst}
 use Rattle.merlin_model.specs.declared.policy.Symbol.{Symbol}
 use Rattle.program_walks.proofs.Turning.{get-some}
 use Rattle.graph_search.proofs.Places.{take-next}
@@ -21,11 +21,15 @@ loop-symbol-preserved c =
       | in-Some w ↦
           let leads = w.in-Some.ensures.next in
           let at = get-some c.args.variables.now w.in-Some.number no_variable w.in-Some.ensures.within in
-          let same = some_some (sym leads.1 ∙ at) in
-          (takes-go c.args.variables.now c.args.symbols.now c.args.flow (take c.loop-symbol.symbol-index c.args.walk.now) _ c.args.point.now c.loop-symbol.point c.match-next_by.point c.loop-symbol.vertex c.match-next_by.vertex _ w.in-Some.number leads.0 c.loop-symbol.invariant.0 here leads.1 leads.2
-          (w.vertex-is ∙ ap (λ (v : Variable). v.edge.to) (sym same)) (w.point-is ∙ w.set.ensures), ap length (w.point-is ∙ w.set.ensures) ∙ length-set c.loop-symbol.point w.in-Some.number true ∙ c.loop-symbol.invariant.1)
-      | in_default w ↦
-          (subst (λ u. TakesTo c.args.variables.now c.args.symbols.now c.args.flow (take (c.loop-symbol.symbol-index + 1) c.args.walk.now) c.args.point.now c.match-next_by.point u) (sym w.vertex-is)
-          (subst (λ p. TakesTo c.args.variables.now c.args.symbols.now c.args.flow (take (c.loop-symbol.symbol-index + 1) c.args.walk.now) c.args.point.now p c.loop-symbol.vertex) (sym w.point-is)
-          (takes-stay c.args.variables.now c.args.symbols.now c.args.flow (take c.loop-symbol.symbol-index c.args.walk.now) _ c.args.point.now c.loop-symbol.point c.loop-symbol.vertex _ c.loop-symbol.invariant.0 here w.in_default.ensures.next)), ap length w.point-is ∙ c.loop-symbol.invariant.1)
+          let same = some_some (sym leads.1 ∙ at) in (
+            takes-go c.args.variables.now c.args.symbols.now c.args.flow (take c.loop-symbol.symbol-index c.args.walk.now) _ c.args.point.now c.loop-symbol.point c.match-next_by.point c.loop-symbol.vertex c.match-next_by.vertex _ w.in-Some.number leads.0 c.loop-symbol.invariant.0 here leads.1 leads.2
+                (w.vertex-is ∙ ap (λ (v : Variable). v.edge.to) (sym same)) (w.point-is ∙ w.set.ensures),
+            ap length (w.point-is ∙ w.set.ensures) ∙ length-set c.loop-symbol.point w.in-Some.number true ∙ c.loop-symbol.invariant.1,
+          )
+      | in_default w ↦ (
+        subst (λ u. TakesTo c.args.variables.now c.args.symbols.now c.args.flow (take (c.loop-symbol.symbol-index + 1) c.args.walk.now) c.args.point.now c.match-next_by.point u) (sym w.vertex-is)
+            (subst (λ p. TakesTo c.args.variables.now c.args.symbols.now c.args.flow (take (c.loop-symbol.symbol-index + 1) c.args.walk.now) c.args.point.now p c.loop-symbol.vertex) (sym w.point-is)
+            (takes-stay c.args.variables.now c.args.symbols.now c.args.flow (take c.loop-symbol.symbol-index c.args.walk.now) _ c.args.point.now c.loop-symbol.point c.loop-symbol.vertex _ c.loop-symbol.invariant.0 here w.in_default.ensures.next)),
+        ap length w.point-is ∙ c.loop-symbol.invariant.1,
+      )
     ]

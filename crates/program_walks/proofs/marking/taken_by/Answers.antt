@@ -1,4 +1,4 @@
-use Rattle.std.proofs.Common.{◌≡◌, ◌∷◌, [], ◌++◌, ◌<◌, ◌+◌, ℕ, List, length, take, drop, length-take, get_or, sym, ◌∙◌, ap, subst, arith}
+use Rattle.std.proofs.Common.{◌∷◌, [], ◌++◌, ◌+◌, ℕ, List, take, drop, length-take, get_or, sym, ◌∙◌, subst, arith}
 use Rattle.merlin_model.specs.declared.policy.Symbol.{Symbol}
 use Rattle.graph_search.proofs.Places.{take-next}
 use Rattle.program_walks.specs.Marks.{TakesTrail, TakeTrails}

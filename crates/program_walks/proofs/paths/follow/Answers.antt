@@ -1,5 +1,4 @@
-use Rattle.std.proofs.Common.{◌≡◌, ℕ, List, arith}
-use Rattle.program_walks.specs.Followed.{IsWayBy}
+use Rattle.std.proofs.Common.{arith}
 use Rattle.program_walks.proofs.Going.{goes-step, goes-ends, goes-full}
 use Rattle.program_walks.proofs.paths.follow.Goals.{else-loop-step-test, then-loop-step-test+in_default}
 use Rattle.program_walks.proofs.paths.follow.Goals as goal

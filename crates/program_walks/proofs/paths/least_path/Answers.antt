@@ -1,8 +1,5 @@
-use Rattle.std.proofs.Common.{◌≡◌, ◌+◌, ◌<◌, ◌^◌, ℕ, List, Option, [], Some, None, slice_get, get_or, ◌∙◌, refl, sym, ap, subst, arith}
+use Rattle.std.proofs.Common.{ℕ, List, Option, [], None, get_or, ◌∙◌, sym, ap, subst, arith}
 use Rattle.cutoff_program.specs.declared.flow.Flow.{Flow}
-use Rattle.graph_search.specs.Graphs.{AreEdgesAmong, ArePotentials, cost_of_all}
-use Rattle.graph_search.specs.declared.graph.Edge.{Edge}
-use Rattle.graph_search.specs.declared.paths.Potentials.{Potentials}
 use Rattle.graph_search.proofs.Places.{no-more}
 use Rattle.program_walks.specs.Paths.{IsLeastPath}
 use Rattle.program_walks.proofs.Turning.{get-some}
@@ -44,4 +41,4 @@ returns c = λ (flow : Flow) stands.
     let h = has-least c.args.problem.now c.args.point.now c.args.number flow c.in_ok-edges.field-0 c.in_ok-distance.field-0 c.requires.is
     (whole c.args.problem.now c.args.variables.now c.args.point.now c.args.number flow c.in_ok-edges.field-0 c.requires.are (c.in_ok-edges.ensures flow stands))
     (at-end c.in_ok-edges.field-0.edges c.in_ok-distance.field-0 c.end_of-end.result flow (c.end_of-end.ensures.end flow stands) c.in_ok-distance.ensures) c.in-Some.cost (ap (λ (d : List (Option ℕ)). get_or d 0 None) (sym c.as_slice.ensures) ∙ c.in-Some.is) in
-    subst (λ (ks : List ℕ). IsLeastPath c.args.problem.now c.args.point.now c.args.number flow (record { path = ks; cost = c.in-Some.cost })) (sym (c.in_ok-path.ensures h.ks (way-same _ c.args.variables.now _ c.as_slice-2.result.now _ c.as_slice-3.result.now h.ks c.requires.are (c.as_slice-2.ensures ∙ sym c.in_ok-edges.numbers-is) (c.as_slice-3.ensures ∙ sym c.in_ok-distance.before-is) h.way))) h.least
+    subst (λ (ks : List ℕ). IsLeastPath c.args.problem.now c.args.point.now c.args.number flow (record { path = ks; cost = c.in-Some.cost })) (sym (c.in_ok-path.ensures h.ks (way-same _ c.args.variables.now _ c.as_slice-2.result.now _ c.as_slice-3.result.now h.ks c.requires.are c.as_slice-2.ensures c.as_slice-3.ensures h.way))) h.least

@@ -3,7 +3,7 @@ use Rattle.std.specs.Prelude.{ℕ, ◌≤◌, ◌<◌, ◌^◌, Option, None, So
 use Rattle.merlin_model.specs.Networks.{Network}
 use Rattle.merlin_base.specs.Lexemes.{IsIdentifier}
 use Rattle.merlin_base.specs.declared.limits.TheConstants.{MAX_DIGITS}
-use Rattle.topology.specs.declared.limits.TheConstants.{MAX_PORT}
+use Rattle.topology_shape.specs.declared.limits.TheConstants.{MAX_PORT}
 use Rattle.config_text.specs.Lines.{name_at, function_name}
 use Rattle.config_lines.specs.declared.limits.TheConstants.{MAX_TAG, MAX_QUEUE}
 

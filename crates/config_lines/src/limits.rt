@@ -1,4 +1,4 @@
-//! Limits of numbers in the lines of a result. That of ports is in `topology::limits`.
+//! Limits of numbers in the lines of a result. That of ports is in `topology_shape::limits`.
 
 /// The greatest VLAN tag, which is at least 1.
 pub const MAX_TAG: u16 = 4094;

@@ -8,7 +8,7 @@ ghost use Rattle.config_lines.specs.Words.{IsWithin, IsShort, IsLocation};
 
 use merlin_base::{is_identifier, read_number, split_at_byte, strip_front};
 use topology::Topology;
-use topology::limits::MAX_PORT;
+use topology_shape::limits::MAX_PORT;
 
 /// The greatest port.
 pub(crate) const GREATEST_PORT: u16 = MAX_PORT as u16;

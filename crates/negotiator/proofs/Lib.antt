@@ -1,1 +1,3 @@
 pub mod StandingIn
+pub mod Walking
+pub mod Finding

@@ -1,1 +1,5 @@
 pub mod StandIns
+pub mod Between
+pub mod Contacts
+pub mod Sums
+pub mod Wider

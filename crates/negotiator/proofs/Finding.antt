@@ -19,7 +19,8 @@ use Rattle.negotiator.specs.declared.contacts.WidePacket.{WidePacket}
 use Rattle.negotiator.specs.declared.contacts.Found.{Found}
 use Rattle.negotiator.specs.StandIns.{IsNotAfter, AreJudgedAlike, AreStandIns}
 use Rattle.negotiator.specs.Between.{HasWalk, StaysWithin}
-use Rattle.negotiator.specs.Contacts.{first_holding, contact_at, IsWideBetween, IsWide, IsInTouch, IsFoundOf, IsSeen, IsFoundUpTo, IsWholeFound, AreProper, preds_of_both, IsLesser, IsWideWith}
+use Rattle.negotiator.specs.Wider.{contact, AreContacts}
+use Rattle.negotiator.specs.Contacts.{first_holding, contact_at, IsWideBetween, IsWide, StaysOrComesLater, IsInTouch, IsFoundOf, IsSeen, IsFoundUpTo, IsWholeFound, AreProper, preds_of_both, IsLesser, IsWideWith}
 
 -- Which statement a packet belongs to, by the predicates alone.
 
@@ -118,10 +119,10 @@ module _ (net : Network) (parent child : Policy) where
     kept-least false (Some k) (Some w) e p was = not-after-through w.packet k.packet p e.not_after_known was
 
     new-least : (stays : Bool) → (stays ≡ true → StaysWithin net parent child src dst (match_of child packet) (match_of parent packet)) → (known result : Option WidePacket) → IsWideWith stays known wide_one result →
-        IsWideBetween net parent child src dst packet → MatchOption result ⊥ (λ w. IsNotAfter w.packet packet)
-    new-least true h known result e wide = absurd (wide.strays (h refl))
-    new-least false h known None e wide = absurd e
-    new-least false h known (Some w) e wide = e.not_after
+        StaysOrComesLater net parent child src dst packet result
+    new-least true h known result e = inl (h refl)
+    new-least false h known None e = absurd e
+    new-least false h known (Some w) e = inr e.not_after
 
     pub noted : (walks stays : Bool) → (walks ≡ true) ↔ HasWalk net child src dst (match_of child packet) →
         (stays ≡ true) ↔ StaysWithin net parent child src dst (match_of child packet) (match_of parent packet) →
@@ -131,7 +132,7 @@ module _ (net : Network) (parent child : Policy) where
       touch = λ c i. touch c (in_append old.contacts.items (cond walks (own ∷ []) []) c (subst (In c) contacts (in_from new.contacts.items c i)));
       all_touch = λ s d p seen in_touch. subst (λ cs. Contains cs (contact_at parent child p)) (sym contacts) (all_touch s d p (seen-split src dst packets packet s d p seen) in_touch);
       wide = new-wide stays stay.1 stay.0 old.wide new.wide wide h.wide;
-      least = λ s d p seen at. least s d p (seen-split src dst packets packet s d p seen) at;
+      others = λ s d p seen is proper. others s d p (seen-split src dst packets packet s d p seen) is proper;
     }
       where
         touch : (c : Contact) → In c old.contacts.items ⊎ In c (cond walks (own ∷ []) []) → Touches net parent child c.child c.parent
@@ -151,11 +152,15 @@ module _ (net : Network) (parent child : Policy) where
             walk-at : (s d : ℕ) (p : Packet) → s ≡ src → d ≡ dst → p ≡ packet → HasWalk net child s d (match_of child p) → HasWalk net child src dst (match_of child packet)
             walk-at s d p e f g has = subst (λ x. HasWalk net child x dst (match_of child packet)) e (subst (λ y. HasWalk net child s y (match_of child packet)) f (subst (λ q. HasWalk net child s d (match_of child q)) g has))
 
-        least : (s d : ℕ) (p : Packet) → IsSeen src dst packets s d p ⊎ ((s ≡ src) × (d ≡ dst) × (p ≡ packet)) → IsWideBetween net parent child s d p → MatchOption new.wide ⊥ (λ w. IsNotAfter w.packet p)
-        least s d p (inl seen) at = kept-least stays old.wide new.wide wide p (h.least s d p seen at)
-        least s d p (inr (e, f, g)) at =
-            subst (λ q. MatchOption new.wide ⊥ (λ w. IsNotAfter w.packet q)) (sym g)
-            (new-least stays stay.0 old.wide new.wide wide (subst (λ q. IsWideBetween net parent child src dst q) g (subst (λ y. IsWideBetween net parent child src y p) f (subst (λ x. IsWideBetween net parent child x d p) e at))))
+        others : (s d : ℕ) (p : Packet) → IsSeen src dst packets s d p ⊎ ((s ≡ src) × (d ≡ dst) × (p ≡ packet)) → IsPacket p → IsProper net p s d → StaysOrComesLater net parent child s d p new.wide
+        others s d p (inl seen) is proper = still (h.others s d p seen is proper)
+          where
+            still : StaysOrComesLater net parent child s d p old.wide → StaysOrComesLater net parent child s d p new.wide
+            still (inl within) = inl within
+            still (inr later) = inr (kept-least stays old.wide new.wide wide p later)
+        others s d p (inr (e, f, g)) is proper =
+            subst (λ x. StaysOrComesLater net parent child x d p new.wide) (sym e) (subst (λ y. StaysOrComesLater net parent child src y p new.wide) (sym f)
+            (subst (λ q. StaysOrComesLater net parent child src dst q new.wide) (sym g) (new-least stays stay.0 old.wide new.wide wide)))
 
   -- All packets between two hosts.
 
@@ -175,13 +180,13 @@ module _ (net : Network) (parent child : Policy) where
   -- Nothing is between two locations, or all that is was looked at.
   pub next-pair : (src dst : ℕ) (packets : List Packet) (found : Found) →
       ((p : Packet) → IsInTouch net parent child src dst p → Contains found.contacts.items (contact_at parent child p)) →
-      ((p : Packet) → IsWideBetween net parent child src dst p → MatchOption found.wide ⊥ (λ w. IsNotAfter w.packet p)) →
+      ((p : Packet) → IsPacket p → IsProper net p src dst → StaysOrComesLater net parent child src dst p found.wide) →
       IsFoundUpTo net parent child src dst packets found → IsFoundUpTo net parent child src (dst + 1) [] found
-  next-pair src dst packets found touches least h = record {
+  next-pair src dst packets found touches stay h = record {
     touch = h.touch;
     all_touch = all_touch;
     wide = h.wide;
-    least = least-of;
+    others = others-of;
   }
     where
       split : (s d : ℕ) (p : Packet) → IsSeen src (dst + 1) [] s d p → IsSeen src dst packets s d p ⊎ ((s ≡ src) × (d ≡ dst))
@@ -200,19 +205,21 @@ module _ (net : Network) (parent child : Policy) where
           by (inl was) = h.all_touch s d p was in_touch
           by (inr (e, f)) = touches p (subst (λ y. IsInTouch net parent child src y p) f (subst (λ x. IsInTouch net parent child x d p) e in_touch))
 
-      least-of : (s d : ℕ) (p : Packet) → IsSeen src (dst + 1) [] s d p → IsWideBetween net parent child s d p → MatchOption found.wide ⊥ (λ w. IsNotAfter w.packet p)
-      least-of s d p seen at = by (split s d p seen)
+      others-of : (s d : ℕ) (p : Packet) → IsSeen src (dst + 1) [] s d p → IsPacket p → IsProper net p s d → StaysOrComesLater net parent child s d p found.wide
+      others-of s d p seen is proper = by (split s d p seen)
         where
-          by : IsSeen src dst packets s d p ⊎ ((s ≡ src) × (d ≡ dst)) → MatchOption found.wide ⊥ (λ w. IsNotAfter w.packet p)
-          by (inl was) = h.least s d p was at
-          by (inr (e, f)) = least p (subst (λ y. IsWideBetween net parent child src y p) f (subst (λ x. IsWideBetween net parent child x d p) e at))
+          by : IsSeen src dst packets s d p ⊎ ((s ≡ src) × (d ≡ dst)) → StaysOrComesLater net parent child s d p found.wide
+          by (inl was) = h.others s d p was is proper
+          by (inr (e, f)) =
+              subst (λ x. StaysOrComesLater net parent child x d p found.wide) (sym e) (subst (λ y. StaysOrComesLater net parent child src y p found.wide) (sym f)
+              (stay p is (subst (λ y. IsProper net p src y) f (subst (λ x. IsProper net p x d) e proper))))
 
   pub no-pair : (src dst : ℕ) → ((p : Packet) → ¬ IsProper net p src dst) → (found : Found) → IsFoundUpTo net parent child src dst [] found → IsFoundUpTo net parent child src (dst + 1) [] found
-  no-pair src dst none found h = next-pair src dst [] found (λ p t. absurd (none p t.proper)) (λ p t. absurd (none p t.proper)) h
+  no-pair src dst none found h = next-pair src dst [] found (λ p t. absurd (none p t.proper)) (λ p is proper. absurd (none p proper)) h
 
   pub whole-pair : (src dst : ℕ) (a b : HostAddress) → a ≢ b → src ≢ dst → address_of net src ≡ Some a → address_of net dst ≡ Some b → (packets : List Packet) → AreStandIns (preds_of_both parent child) a b packets →
       (found : Found) → IsFoundUpTo net parent child src dst packets found → IsFoundUpTo net parent child src (dst + 1) [] found
-  whole-pair src dst a b differ apart e f packets are found h = next-pair src dst packets found touches least h
+  whole-pair src dst a b differ apart e f packets are found h = next-pair src dst packets found touches stay h
     where
       cs : List Pred
       cs = map (λ st. st.pred) child.statements
@@ -244,19 +251,22 @@ module _ (net : Network) (parent child : Policy) where
           subst (Contains found.contacts.items) (ap₂ (λ x y. record { child = x; parent = y }) (sym i) (sym j))
           (h.all_touch src dst c (inr (refl, inr (refl, k.1))) (record { is_packet = is.0; proper = is.1; walk = subst (HasWalk net child src dst) i t.walk }))
 
-      least : (p : Packet) → IsWideBetween net parent child src dst p → MatchOption found.wide ⊥ (λ w. IsNotAfter w.packet p)
-      least p t =
-          let k = are.each p t.is_packet (proper-between src dst a b differ e f p t.proper) in
+      stay : (p : Packet) → IsPacket p → IsProper net p src dst → StaysOrComesLater net parent child src dst p found.wide
+      stay p is_packet proper =
+          let k = are.each p is_packet (proper-between src dst a b differ e f p proper) in
           let c = k.0 in
           let is = good c (in_from packets c k.1) in
           let i = of-child p c k.3 in
           let j = of-parent p c k.3 in
-          earlier found.wide c p k.2 (h.least src dst c (inr (refl, inr (refl, k.1)))
-          (record { is_packet = is.0; proper = is.1; strays = λ s. t.strays (subst (λ y. StaysWithin net parent child src dst (match_of child p) y) (sym j) (subst (λ x. StaysWithin net parent child src dst x (match_of parent c)) (sym i) s)) }))
+          by c i j k.2 (h.others src dst c (inr (refl, inr (refl, k.1))) is.0 is.1)
         where
           earlier : (o : Option WidePacket) (c p : Packet) → IsNotAfter c p → MatchOption o ⊥ (λ w. IsNotAfter w.packet c) → MatchOption o ⊥ (λ w. IsNotAfter w.packet p)
           earlier None c p le gone = absurd gone
           earlier (Some w) c p le h = not-after-through w.packet c p h le
+
+          by : (c : Packet) → match_of child p ≡ match_of child c → match_of parent p ≡ match_of parent c → IsNotAfter c p → StaysOrComesLater net parent child src dst c found.wide → StaysOrComesLater net parent child src dst p found.wide
+          by c i j le (inl within) = inl (subst (λ y. StaysWithin net parent child src dst (match_of child p) y) (sym j) (subst (λ x. StaysWithin net parent child src dst x (match_of parent c)) (sym i) within))
+          by c i j le (inr later) = inr (earlier found.wide c p le later)
 
   -- The next row, and all rows.
 
@@ -268,7 +278,7 @@ module _ (net : Network) (parent child : Policy) where
     touch = h.touch;
     all_touch = λ s d p seen t. h.all_touch s d p (was s d p (located d (destination_of p) t.proper.destination) seen) t;
     wide = h.wide;
-    least = λ s d p seen t. h.least s d p (was s d p (located d (destination_of p) t.proper.destination) seen) t;
+    others = λ s d p seen is proper. h.others s d p (was s d p (located d (destination_of p) proper.destination) seen) is proper;
   }
     where
       was : (s d : ℕ) (p : Packet) → d < length net.locations → IsSeen (src + 1) 0 [] s d p → IsSeen src (length net.locations) [] s d p
@@ -285,7 +295,7 @@ module _ (net : Network) (parent child : Policy) where
     touch = h.touch;
     all_touch = λ s d p seen t. h.all_touch s d p (inl (located s (source_of p) t.proper.source)) t;
     wide = h.wide;
-    least = λ s d p seen t. h.least s d p (inl (located s (source_of p) t.proper.source)) t;
+    others = λ s d p seen is proper. h.others s d p (inl (located s (source_of p) proper.source)) is proper;
   }
 
   pub nothing-found : (found : Found) → found.contacts.items ≡ [] → found.wide ≡ None → IsFoundUpTo net parent child 0 0 [] found
@@ -293,7 +303,7 @@ module _ (net : Network) (parent child : Policy) where
     touch = λ c i. absurd (in_from [] c (subst (λ cs. Contains cs c) no_contacts i));
     all_touch = λ s d p seen t. absurd (unseen s d p seen);
     wide = subst (λ o. MatchOption o ⊤ (IsWide net parent child)) (sym no_wide) tt;
-    least = λ s d p seen t. absurd (unseen s d p seen);
+    others = λ s d p seen is proper. absurd (unseen s d p seen);
   }
     where
       unseen : (s d : ℕ) (p : Packet) → IsSeen 0 0 [] s d p → ⊥
@@ -313,10 +323,19 @@ well-both parent child p c = all_both IsPred (map (λ st. st.pred) child.stateme
 pub apart-addresses : (net : Network) → IsNetwork net → (s d : ℕ) (a b : HostAddress) → s ≢ d → address_of net s ≡ Some a → address_of net d ≡ Some b → a ≢ b
 apart-addresses net lawful s d a b differ e f same = differ (lawful.addresses s d a b e f (inl (ap (λ (x : HostAddress). x.eth) same)))
 
-
 pub on-ok : {A E : Type 0} (r : Result A E) (P Q : Type 0) → (P → Q) → OnOk r P → OnOk r Q
 on-ok (Ok x) P Q f h = f h
 on-ok (Err e) P Q f h = h
 
 pub no-address : (a : HostAddress) → None ≡ Some a → ⊥
 no-address a e = cc
+
+-- What is found whole is exact.
+pub exact-contacts : (net : Network) (parent child : Policy) (found : Found) → IsWholeFound net parent child found → AreContacts net parent child found.contacts.items
+exact-contacts net parent child found h i j = (h.touch (contact i j), there)
+  where
+    there : Touches net parent child i j → Contains found.contacts.items (contact i j)
+    there t =
+        let al = t.allowed.1 in
+        subst (Contains found.contacts.items) (ap₂ (λ (x y : ℕ). contact x y) t.of_child t.of_parent)
+        (h.all_touch t.host al.to t.packet tt (record { is_packet = t.is_packet; proper = al.proper; walk = (t.allowed.0, al.walk, al.on_path) }))

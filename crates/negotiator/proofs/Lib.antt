@@ -1,3 +1,4 @@
 pub mod StandingIn
 pub mod Walking
 pub mod Finding
+pub mod Straying

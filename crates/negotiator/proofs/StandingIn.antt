@@ -49,9 +49,12 @@ told-for limit v named up small = by (decide_in v named)
   where
     by : In v named ⊎ (¬ In v named) → (u : ℕ) × In u (named ++ least_other limit named) × (u ≤ v) × StandsFor named v u
     by (inl i) = (v, in_append-left named (least_other limit named) v i, omega arith, inl refl)
-    by (inr out) =
-        (least_from 0 named, in_append-right named (least_other limit named) (least_from 0 named) (other-in limit v named small out),
-        least_from-least 0 v named (omega arith) out, inr (out, least_from-out 0 named up))
+    by (inr out) = (
+      least_from 0 named,
+      in_append-right named (least_other limit named) (least_from 0 named) (other-in limit v named small out),
+      least_from-least 0 v named (omega arith) out,
+      inr (out, least_from-out 0 named up),
+    )
 
 abbrev mentioned : Field → List Pred → List ℕ
 mentioned f under = ascending (flat_map (mentions f) under)

@@ -54,12 +54,13 @@ read-by symbols checked have i lt table e =
 pub width-of : (symbols : List Symbol) (policy : Policy) (i : ℕ) (table : AutomatonTables) → IsReadBy symbols policy i table → table.width ≡ length symbols
 width-of symbols policy i table r = r.of_path.built.1.width
 
-on-path : (net : Network) (symbols : List Symbol) → AreSymbolsOf net symbols → (policy : Policy) (i : ℕ) (table : AutomatonTables) → IsReadBy symbols policy i table →
+pub on-path : (net : Network) (symbols : List Symbol) → AreSymbolsOf net symbols → (policy : Policy) (i : ℕ) (table : AutomatonTables) → IsReadBy symbols policy i table →
     (s d : ℕ) (w : List Symbol) → IsWalk net s d w → (accepts_word symbols table w ≡ true) ↔ IsOnPath policy i w
 on-path net symbols are policy i table r s d w walk =
-    let law = accepts-listed symbols r.path table r.of_path.words w (made net symbols are w walk.symbols) in
-    (λ a. record { path = r.path; has = r.has; described = law.0 a },
-    λ o. law.1 (subst (λ p. InLanguage p w) (same-some o.path r.path (sym o.has ∙ r.has)) o.described))
+    let law = accepts-listed symbols r.path table r.of_path.words w (made net symbols are w walk.symbols) in (
+      λ a. record { path = r.path; has = r.has; described = law.0 a },
+      λ o. law.1 (subst (λ p. InLanguage p w) (same-some o.path r.path (sym o.has ∙ r.has)) o.described),
+    )
 
 pub walks-decided : (net : Network) (symbols : List Symbol) → AreSymbolsOf net symbols → (policy : Policy) (i : ℕ) (table none : AutomatonTables) → IsReadBy symbols policy i table →
     AcceptsNothing symbols none → (s d : ℕ) (found : Option (List Symbol)) → IsInclusionAnswer net symbols table none s d found → IsTrue (is_some found) ↔ HasWalk net policy s d i
@@ -73,6 +74,8 @@ pub stays-decided : (net : Network) (symbols : List Symbol) → AreSymbolsOf net
     IsTrue (is_none found) ↔ StaysWithin net parent child s d i j
 stays-decided net symbols are parent child i j table other r q s d None answer =
     (λ t w walk on. (on-path net symbols are parent j other q s d w walk).0 (answer w walk ((on-path net symbols are child i table r s d w walk).1 on)), λ h. refl)
-stays-decided net symbols are parent child i j table other r q s d (Some w) answer =
-    (λ t. absurd (clash t), λ h. absurd (clash (sym answer.0.refused
-    ∙ (on-path net symbols are parent j other q s d w answer.0.walk).1 (h w answer.0.walk ((on-path net symbols are child i table r s d w answer.0.walk).0 answer.0.accepted)))))
+stays-decided net symbols are parent child i j table other r q s d (Some w) answer = (
+  λ t. absurd (clash t),
+  λ h. absurd (clash (sym answer.0.refused
+      ∙ (on-path net symbols are parent j other q s d w answer.0.walk).1 (h w answer.0.walk ((on-path net symbols are child i table r s d w answer.0.walk).0 answer.0.accepted)))),
+)

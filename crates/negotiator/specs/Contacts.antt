@@ -32,6 +32,10 @@ module _ (net : Network) (parent child : Policy) where
   abbrev pub IsWide : WidePacket → Type 0
   IsWide wide = IsWideBetween wide.src wide.dst wide.packet
 
+  -- the child allows the packet no more than the parent does, or it comes no earlier than one to which the child allows more
+  abbrev pub StaysOrComesLater : ℕ → ℕ → Packet → Option WidePacket → Type 0
+  StaysOrComesLater s d p wide = StaysWithin net parent child s d (match_of child p) (match_of parent p) ⊎ MatchOption wide ⊥ (λ w. IsNotAfter w.packet p)
+
   -- the packet goes from one host to the other, and its statement in the child has a walk between them
   pub record IsInTouch (s d : ℕ) (p : Packet) : Type 0 where
     pub is_packet : IsPacket p
@@ -43,7 +47,7 @@ module _ (net : Network) (parent child : Policy) where
     pub touch : (c : Contact) → Contains found.contacts.items c → Touches net parent child c.child c.parent
     pub all_touch : (s d : ℕ) (p : Packet) → Seen s d p → IsInTouch s d p → Contains found.contacts.items (contact_at parent child p)
     pub wide : MatchOption found.wide ⊤ IsWide
-    pub least : (s d : ℕ) (p : Packet) → Seen s d p → IsWideBetween s d p → MatchOption found.wide ⊥ (λ w. IsNotAfter w.packet p)
+    pub others : (s d : ℕ) (p : Packet) → Seen s d p → IsPacket p → IsProper net p s d → StaysOrComesLater s d p found.wide
 
 -- All packets from a host before this one are looked at, all from this one to a host before another, and of those between these two some.
 abbrev pub IsSeen : ℕ → ℕ → List Packet → ℕ → ℕ → Packet → Type 0

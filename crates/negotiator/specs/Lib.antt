@@ -1,5 +1,4 @@
 pub mod StandIns
 pub mod Between
 pub mod Contacts
-pub mod Sums
 pub mod Wider

@@ -54,7 +54,7 @@ fn first_holding(preds: &[Pred], packet: &Packet) -> usize
 }
 
 // The statements that a packet belongs to.
-fn contact_of(case: &Case<'_>, packet: &Packet) -> Contact
+pub(crate) fn contact_of(case: &Case<'_>, packet: &Packet) -> Contact
     ensures { result ≡ contact_at case.now.parent.now.policy case.now.child.now.policy packet.now }
 {
     Contact {
@@ -285,11 +285,7 @@ fn note_all(
 }
 
 // Adds copies of predicates.
-fn copy_preds(
-    alloc: Global,
-    preds: &[Pred],
-    copies: &mut Items<Pred>,
-) -> Result<(), OutOfMemory>
+fn copy_preds(alloc: Global, preds: &[Pred], copies: &mut Items<Pred>) -> Result<(), OutOfMemory>
     ensures { OnOk result (copies.new ≡ copies.old ++ preds.now) }
 {
     for pred in preds {

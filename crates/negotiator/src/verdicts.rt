@@ -57,15 +57,7 @@ fn has_walk(
         HasWalk case.now.net.now case.now.child.now.policy src dst of_child) }
 {
     let path = case.child.automaton(of_child);
-    let walk = included(
-        alloc,
-        path,
-        case.nothing,
-        case.net,
-        case.symbols,
-        src,
-        dst,
-    )?;
+    let walk = included(alloc, path, case.nothing, case.net, case.symbols, src, dst)?;
     Ok(walk.is_some())
 }
 

@@ -10,6 +10,7 @@ mod left;
 mod pair_cells;
 mod pairs;
 mod parts;
+mod stretches;
 mod witness;
 
 pub use fault::{MAX_CELLS, MAX_CLASSES, SplitFault};

@@ -9,4 +9,5 @@ pub mod configs;
 pub mod divisions;
 pub mod files;
 pub mod policies;
+pub mod splits;
 pub mod topologies;

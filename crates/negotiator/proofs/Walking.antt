@@ -12,8 +12,8 @@ use Rattle.path_automaton.specs.States.{IsMadeOf}
 use Rattle.path_automaton.proofs.Listed.{accepts-listed}
 use Rattle.language_check.specs.Inclusion.{accepts_word, IsInclusionAnswer}
 use Rattle.language_check.specs.Ways.{AreSymbolsOf}
-use Rattle.policy_check.specs.Checked.{CheckedPolicy, automaton_of_statement, IsAutomatonOfPath}
-use Rattle.negotiator.specs.Between.{HasWalk, StaysWithin, HasAutomata, AcceptsNothing}
+use Rattle.policy_check.specs.Checked.{CheckedPolicy, automaton_of_statement, HasAutomata, IsAutomatonOfPath}
+use Rattle.negotiator.specs.Between.{HasWalk, StaysWithin, AcceptsNothing}
 
 clash : false ≡ true → ⊥
 clash e = cc

@@ -1,15 +1,14 @@
 -- What statements of two policies have to do with each other between two hosts, and what the automata of their paths say of it.
-use Rattle.std.specs.Prelude.{ℕ, ◌≡◌, ◌↔◌, ⊤, IsTrue, true, List, map, length, Some, slice_get}
-use Rattle.merlin_model.specs.declared.policy.Path.{Path}
+use Rattle.std.specs.Prelude.{ℕ, ◌≡◌, ◌↔◌, IsTrue, true, List, length}
 use Rattle.merlin_model.specs.declared.policy.Symbol.{Symbol}
 use Rattle.merlin_model.specs.Networks.{Network}
 use Rattle.merlin_model.specs.Words.{IsWalk}
-use Rattle.merlin_model.specs.Policies.{Policy, paths_of, IsOnPath}
+use Rattle.merlin_model.specs.Policies.{Policy, IsOnPath}
 use Rattle.path_automaton.specs.Automata.{AutomatonTables}
 use Rattle.path_automaton.specs.States.{IsMadeOf}
 use Rattle.language_check.specs.Inclusion.{accepts_word}
 use Rattle.language_check.specs.Ways.{AreSymbolsOf}
-use Rattle.policy_check.specs.Checked.{CheckedPolicy, automaton_of_statement, IsAutomatonOfPath}
+use Rattle.policy_check.specs.Checked.{HasAutomata}
 use Rattle.negotiator.specs.declared.verdicts.Case.{Case}
 use Rattle.negotiator.specs.declared.verdicts.Verdict.{Verdict}
 
@@ -20,12 +19,6 @@ HasWalk net policy s d i = (w : List Symbol) × IsWalk net s d w × IsOnPath pol
 -- each walk between the two hosts on the path of the one statement is on that of the other
 abbrev pub StaysWithin : Network → Policy → Policy → ℕ → ℕ → ℕ → ℕ → Type 0
 StaysWithin net parent child s d i j = (w : List Symbol) → IsWalk net s d w → IsOnPath child i w → IsOnPath parent j w
-
--- each path has its automaton, as `check` gives it
-abbrev pub HasAutomata : List Symbol → CheckedPolicy → Type 0
-HasAutomata symbols checked =
-    (i : ℕ) (path : Path) → slice_get (paths_of checked.policy) i ≡ Some path →
-    (table : AutomatonTables) × (automaton_of_statement checked i ≡ Some table) × IsAutomatonOfPath symbols path table
 
 -- no word is accepted
 pub record AcceptsNothing (symbols : List Symbol) (table : AutomatonTables) : Type 0 where

@@ -1,8 +1,9 @@
 //! What a child policy has to do with its parent, over all packets.
 
 ghost use Rattle.std.specs.Prelude.{IfOk, MatchOption};
-ghost use Rattle.language_check.specs.Ways.{AreSymbolsOf};
-ghost use Rattle.negotiator.specs.Between.{HasAutomata, IsCase};
+ghost use Rattle.policy_check.specs.Checked.{HasAutomata};
+ghost use Rattle.topology.specs.Symbols.{network_symbols};
+ghost use Rattle.negotiator.specs.Between.{IsCase};
 ghost use Rattle.negotiator.specs.Contacts.{IsWholeFound};
 ghost use Rattle.negotiator.specs.Wider.{AreContacts, IsWidePath, KeepsPaths};
 
@@ -10,7 +11,6 @@ use crate::contacts::{Contact, Found, find};
 use crate::paths::{WidePath, wide_path};
 use crate::verdicts::{Case, nothing};
 use merlin_model::OutOfMemory;
-use merlin_model::policy::Symbol;
 use policy_check::Checked;
 use std::alloc::Global;
 use topology::Topology;
@@ -55,7 +55,7 @@ fn compared(alloc: Global, case: &Case<'_>) -> Result<Comparison, OutOfMemory>
 
 /// Which statements of the child touch which of the parent: some packet belongs to both, and the child allows it a walk. And the least packet to
 /// which the child allows a walk that the parent does not, with the least such walk; none where the parent allows all that the child allows.
-/// Defaults count as statements, behind the others. The symbols are those of the network, over which both policies were checked.
+/// Defaults count as statements, behind the others. Both policies were checked over the network.
 ///
 /// # Errors
 /// Where memory ran out.
@@ -64,17 +64,17 @@ pub fn compare(
     parent: &Checked,
     child: &Checked,
     net: &Topology,
-    symbols: &[Symbol],
 ) -> Result<Comparison, OutOfMemory>
-    requires symbols { AreSymbolsOf net.now symbols.now }
-    requires parent { HasAutomata symbols.now parent.now }
-    requires child { HasAutomata symbols.now child.now }
+    requires parent { HasAutomata (network_symbols net.now) parent.now }
+    requires child { HasAutomata (network_symbols net.now) child.now }
     ensures touching { IfOk result (λ c. AreContacts net.now
         parent.now.policy child.now.policy c.contacts.items) }
     ensures paths { IfOk result (λ c. MatchOption c.wide (KeepsPaths net.now
         parent.now.policy child.now.policy) (IsWidePath net.now
-        parent.now.policy child.now.policy symbols.now)) }
+        parent.now.policy child.now.policy (network_symbols net.now))) }
 {
+    topology::laws::symbols_are_all();
+    let symbols = net.symbols();
     let nothing = nothing(alloc, symbols)?;
     let case = Case {
         parent,

@@ -4,7 +4,7 @@ ghost use Rattle.std.specs.Prelude.{◌≡◌, ◌≢◌, Some, ◌<◌, ◌+◌
 ghost use Rattle.std.specs.List.{AllByRecursion};
 ghost use Rattle.merlin_model.specs.Packets.{IsPacket, ComesBefore, field_of, Packet as Header};
 ghost use Rattle.merlin_model.specs.Networks.{IsHost, IsProper, address_of};
-ghost use Rattle.topology.specs.Rules.{IsTopologyNetwork};
+ghost use Rattle.topology.specs.Lawful.{IsTopologyNetwork};
 ghost use Rattle.merlin_model.specs.Predicates.{IsPred};
 ghost use Rattle.negotiator.specs.Between.{IsCase};
 ghost use Rattle.negotiator.specs.Contacts.{first_holding as first_of, contact_at, IsFoundUpTo, IsWholeFound, AreProper, preds_of_both, IsLesser, IsWideWith};

@@ -48,19 +48,20 @@ fn add_numbered(text: &mut Lines, piece: &str, number: u64, left: u64) {
     }
 }
 
-/// Adds a piece and an end so many times to a file, each time with its number, from 0, in place of each `%` of the piece, and in place of each `~` how
-/// many there are from it on: the last has 1.
+/// Adds a piece and an end to a file for each number from the first to that before the last, which stands in place of each `%` of the piece, and how many
+/// there are from it on in place of each `~`: the last has 1.
 pub fn add_times(
     store: &mut Store,
     alloc: Global,
     name: &str,
     piece: &str,
     end: &str,
-    times: u64,
+    first: u64,
+    past: u64,
 ) -> Result<(), OutOfMemory> {
     let mut text = Lines::new(alloc);
-    for number in 0..times {
-        add_numbered(&mut text, piece, number, times - number);
+    for number in first..past {
+        add_numbered(&mut text, piece, number, past - number);
         text.add(end);
     }
     add(store, alloc, name, text.text().as_bytes())

@@ -6,6 +6,12 @@ use Rattle.negotiator.specs.Contacts.{IsFoundUpTo}
 use Rattle.negotiator.proofs.Finding.{apart-addresses, whole-pair, on-ok}
 use Rattle.negotiator.proofs.contacts.note_hosts.Goals as goal
 
+pub stand_ins-requires-clause-src : goal.stand_ins-requires-clause-src
+stand_ins-requires-clause-src c = c.requires.network.forms.addresses c.args.src c.args.addresses.0 c.requires.src
+
+pub stand_ins-requires-clause-dst : goal.stand_ins-requires-clause-dst
+stand_ins-requires-clause-dst c = c.requires.network.forms.addresses c.args.dst c.args.addresses.1 c.requires.dst
+
 pub returns : goal.returns
 returns c =
     let apart = apart-addresses c.args.case.now.net.now c.requires.network.lawful c.args.src c.args.dst c.args.addresses.0 c.args.addresses.1 c.requires.differ c.requires.src c.requires.dst in

@@ -17,7 +17,7 @@ use Rattle.language_check.proofs.Between.{host-within}
 use Rattle.negotiator.specs.declared.contacts.Contact.{Contact}
 use Rattle.negotiator.specs.declared.contacts.WidePacket.{WidePacket}
 use Rattle.negotiator.specs.declared.contacts.Found.{Found}
-use Rattle.negotiator.specs.StandIns.{IsNotAfter, AreJudgedAlike, AreStandIns}
+use Rattle.negotiator.specs.StandIns.{IsNoLaterThan, AreJudgedAlike, AreStandIns}
 use Rattle.negotiator.specs.Between.{HasWalk, StaysWithin}
 use Rattle.negotiator.specs.Wider.{contact, AreContacts}
 use Rattle.negotiator.specs.Contacts.{first_holding, contact_at, IsWideBetween, IsWide, StaysOrComesLater, IsInTouch, IsFoundOf, IsSeen, IsFoundUpTo, IsWholeFound, AreProper, preds_of_both, IsLesser, IsWideWith}
@@ -42,15 +42,15 @@ alike-right (x ∷ xs) ys p q h = alike-right xs ys p q h.1
 
 -- The order of packets.
 
-pub not-after-through : (a b c : Packet) → IsNotAfter a b → IsNotAfter b c → IsNotAfter a c
-not-after-through a b c (inl e) h = subst (λ x. IsNotAfter x c) (sym e) h
+pub not-after-through : (a b c : Packet) → IsNoLaterThan a b → IsNoLaterThan b c → IsNoLaterThan a c
+not-after-through a b c (inl e) h = subst (λ x. IsNoLaterThan x c) (sym e) h
 not-after-through a b c (inr f) (inl e) = inr (subst (λ x. ComesBefore a x) e f)
 not-after-through a b c (inr f) (inr g) = inr (transitive a b c f g)
 
-pub not-after-unless : (a b : Packet) → (¬ ComesBefore b a) → IsNotAfter a b
+pub not-after-unless : (a b : Packet) → (¬ ComesBefore b a) → IsNoLaterThan a b
 not-after-unless a b h = by (total a b)
   where
-    by : (a ≡ b) ⊎ (ComesBefore a b ⊎ ComesBefore b a) → IsNotAfter a b
+    by : (a ≡ b) ⊎ (ComesBefore a b ⊎ ComesBefore b a) → IsNoLaterThan a b
     by (inl e) = inl e
     by (inr (inl f)) = inr f
     by (inr (inr f)) = absurd (h f)
@@ -112,8 +112,8 @@ module _ (net : Network) (parent child : Policy) where
         by None was (inr gone) = absurd gone
         by (Some x) was (inr same) = subst (IsWide net parent child) (sym same) was
 
-    kept-least : (stays : Bool) (known result : Option WidePacket) → IsWideWith stays known wide_one result → (p : Packet) → MatchOption known ⊥ (λ w. IsNotAfter w.packet p) → MatchOption result ⊥ (λ w. IsNotAfter w.packet p)
-    kept-least true known result e p was = subst (λ o. MatchOption o ⊥ (λ w. IsNotAfter w.packet p)) (sym e) was
+    kept-least : (stays : Bool) (known result : Option WidePacket) → IsWideWith stays known wide_one result → (p : Packet) → MatchOption known ⊥ (λ w. IsNoLaterThan w.packet p) → MatchOption result ⊥ (λ w. IsNoLaterThan w.packet p)
+    kept-least true known result e p was = subst (λ o. MatchOption o ⊥ (λ w. IsNoLaterThan w.packet p)) (sym e) was
     kept-least false known None e p was = absurd e
     kept-least false None (Some w) e p was = absurd was
     kept-least false (Some k) (Some w) e p was = not-after-through w.packet k.packet p e.not_after_known was
@@ -260,11 +260,11 @@ module _ (net : Network) (parent child : Policy) where
           let j = of-parent p c k.3 in
           by c i j k.2 (h.others src dst c (inr (refl, inr (refl, k.1))) is.0 is.1)
         where
-          earlier : (o : Option WidePacket) (c p : Packet) → IsNotAfter c p → MatchOption o ⊥ (λ w. IsNotAfter w.packet c) → MatchOption o ⊥ (λ w. IsNotAfter w.packet p)
+          earlier : (o : Option WidePacket) (c p : Packet) → IsNoLaterThan c p → MatchOption o ⊥ (λ w. IsNoLaterThan w.packet c) → MatchOption o ⊥ (λ w. IsNoLaterThan w.packet p)
           earlier None c p le gone = absurd gone
           earlier (Some w) c p le h = not-after-through w.packet c p h le
 
-          by : (c : Packet) → match_of child p ≡ match_of child c → match_of parent p ≡ match_of parent c → IsNotAfter c p → StaysOrComesLater net parent child src dst c found.wide → StaysOrComesLater net parent child src dst p found.wide
+          by : (c : Packet) → match_of child p ≡ match_of child c → match_of parent p ≡ match_of parent c → IsNoLaterThan c p → StaysOrComesLater net parent child src dst c found.wide → StaysOrComesLater net parent child src dst p found.wide
           by c i j le (inl within) = inl (subst (λ y. StaysWithin net parent child src dst (match_of child p) y) (sym j) (subst (λ x. StaysWithin net parent child src dst x (match_of parent c)) (sym i) within))
           by c i j le (inr later) = inr (earlier found.wide c p le later)
 

@@ -20,7 +20,7 @@ use Rattle.predicate_split.proofs.LeastNumbers.{least_from-least, least_from-out
 use Rattle.predicate_split.proofs.PartLaws.{decide_in}
 use Rattle.predicate_split.proofs.Splitting.{mentioned-below}
 use Rattle.predicate_split.proofs.Owners.{GoesBetween, StandsFor, goes, left-fresh, under-fresh, alike-between, alike-under, under-pass, unnamed-pass}
-use Rattle.negotiator.specs.StandIns.{IsHostAddress, AreJudgedAlike, IsNotAfter, AreStandIns, least_other, ports_told, HasSmallPorts, AreFreeOfPorts, packets_to, packets_from, packets_under, other_packets, packets_left, stand_ins}
+use Rattle.negotiator.specs.StandIns.{IsHostAddress, AreJudgedAlike, IsNoLaterThan, AreStandIns, least_other, ports_told, HasSmallPorts, AreFreeOfPorts, packets_to, packets_from, packets_under, other_packets, packets_left, stand_ins}
 
 all-in : {X : Type 0} (P : X → Type 0) (xs : List X) → ((x : X) → In x xs → P x) → AllByRecursion P xs
 all-in P [] h = tt
@@ -119,7 +119,7 @@ same-packet p a b c d e f g ea eb ec ed ee ef eg =
     ∙ ap (λ (x : ℕ). record { eth_src = p.eth_src; eth_dst = p.eth_dst; ip_src = p.ip_src; ip_dst = p.ip_dst; proto = p.proto; sport = p.sport; dport = x }) eg
 
 no-later : (src dst : HostAddress) (p : Packet) (proto sport dport : ℕ) → GoesBetween src dst p → (proto < p.proto) ⊎ ((p.proto ≡ proto) × (sport ≤ p.sport) × (dport ≤ p.dport)) →
-    IsNotAfter (packet_between src dst proto sport dport) p
+    IsNoLaterThan (packet_between src dst proto sport dport) p
 no-later src dst p proto sport dport at (inl less) =
     inr (inr (sym at.eth_src, inr (sym at.eth_dst, inr (sym at.ip_src, inr (sym at.ip_dst, inl less)))))
 no-later src dst p proto sport dport at (inr (same, s, d)) = by (ports s d)
@@ -135,7 +135,7 @@ no-later src dst p proto sport dport at (inr (same, s, d)) = by (ports s d)
         sports true e = inl (grind (arith, e))
         sports false e = let equal : sport ≡ p.sport = grind (arith, e, a) in inr (equal, dports (nat_lt dport p.dport) refl)
 
-    by : (sport < p.sport) ⊎ ((sport ≡ p.sport) × ((dport < p.dport) ⊎ (dport ≡ p.dport))) → IsNotAfter (packet_between src dst proto sport dport) p
+    by : (sport < p.sport) ⊎ ((sport ≡ p.sport) × ((dport < p.dport) ⊎ (dport ≡ p.dport))) → IsNoLaterThan (packet_between src dst proto sport dport) p
     by (inl less) = inr (inr (sym at.eth_src, inr (sym at.eth_dst, inr (sym at.ip_src, inr (sym at.ip_dst, inr (sym same, inl less))))))
     by (inr (e, inl less)) = inr (inr (sym at.eth_src, inr (sym at.eth_dst, inr (sym at.ip_src, inr (sym at.ip_dst, inr (sym same, inr (e, inl less)))))))
     by (inr (e, inr f)) = inl (same-packet p src.eth dst.eth src.ip dst.ip proto sport dport at.eth_src at.eth_dst at.ip_src at.ip_dst same e f)
@@ -206,7 +206,7 @@ module _ (src dst : HostAddress) (preds : List Pred) (well : AllByRecursion IsPr
   -- each packet has one that stands for it
 
   abbrev HasStandIn : Packet → Type 0
-  HasStandIn p = (c : Packet) × In c (stand_ins preds src dst) × IsNotAfter c p × AreJudgedAlike preds p c
+  HasStandIn p = (c : Packet) × In c (stand_ins preds src dst) × IsNoLaterThan c p × AreJudgedAlike preds p c
 
   named : (p : Packet) → IsPacket p → GoesBetween src dst p → In p.proto (protos left) → HasStandIn p
   named p packet at i =
@@ -250,7 +250,7 @@ module _ (src dst : HostAddress) (preds : List Pred) (well : AllByRecursion IsPr
           by true e = inl (grind (arith, e))
           by false e = let same : p.proto ≡ least_from 0 (protos left) = grind (arith, e, le) in inr (same, omega arith, omega arith)
 
-  stand-in : (p : Packet) → IsPacket p → IsBetween p src dst → (c : Packet) × Contains (stand_ins preds src dst) c × IsNotAfter c p × AreJudgedAlike preds p c
+  stand-in : (p : Packet) → IsPacket p → IsBetween p src dst → (c : Packet) × Contains (stand_ins preds src dst) c × IsNoLaterThan c p × AreJudgedAlike preds p c
   stand-in p packet between =
       let h = by (decide_in p.proto (protos left)) in
       (h.0, in_to (stand_ins preds src dst) h.0 h.1, h.2, h.3)

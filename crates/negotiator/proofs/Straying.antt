@@ -12,7 +12,7 @@ use Rattle.language_check.specs.Ways.{AreSymbolsOf}
 use Rattle.negotiator.specs.declared.contacts.WidePacket.{WidePacket}
 use Rattle.negotiator.specs.declared.contacts.Found.{Found}
 use Rattle.negotiator.specs.declared.paths.WidePath.{WidePath}
-use Rattle.negotiator.specs.StandIns.{IsNotAfter}
+use Rattle.negotiator.specs.StandIns.{IsNoLaterThan}
 use Rattle.negotiator.specs.Between.{StaysWithin}
 use Rattle.negotiator.specs.Contacts.{IsWideBetween, IsWide, StaysOrComesLater, IsFoundOf, IsWholeFound}
 use Rattle.negotiator.specs.Wider.{IsStrayFor, IsLeastStrayFor, IsWider, IsWidePath, IsWithPacket, KeepsPaths}

@@ -10,7 +10,7 @@ use Rattle.language_check.specs.Inclusion.{accepts_word}
 use Rattle.language_check.specs.Ways.{AreSymbolsOf}
 use Rattle.policy_check.specs.Checked.{HasAutomata}
 use Rattle.negotiator.specs.declared.verdicts.Case.{Case}
-use Rattle.negotiator.specs.declared.verdicts.Verdict.{Verdict}
+use Rattle.negotiator.specs.declared.verdicts.WalkVerdict.{WalkVerdict}
 
 -- some walk between the two hosts is on the path of the statement
 abbrev pub HasWalk : Network → Policy → ℕ → ℕ → ℕ → Type 0
@@ -33,6 +33,6 @@ pub record IsCase (case : Case) : Type 0 where
   pub nothing : AcceptsNothing case.symbols.now case.nothing.now
 
 -- what is said of a statement of the child and one of the parent is so
-pub record IsVerdict (case : Case) (s d i j : ℕ) (verdict : Verdict) : Type 0 where
+pub record IsWalkVerdict (case : Case) (s d i j : ℕ) (verdict : WalkVerdict) : Type 0 where
   pub walks : IsTrue verdict.walks ↔ HasWalk case.net.now case.child.now.policy s d i
   pub stays : IsTrue verdict.stays ↔ StaysWithin case.net.now case.parent.now.policy case.child.now.policy s d i j

@@ -10,7 +10,7 @@ use Rattle.refinement_model.specs.Refinement.{Touches}
 use Rattle.negotiator.specs.declared.contacts.Contact.{Contact}
 use Rattle.negotiator.specs.declared.contacts.WidePacket.{WidePacket}
 use Rattle.negotiator.specs.declared.contacts.Found.{Found}
-use Rattle.negotiator.specs.StandIns.{IsNotAfter}
+use Rattle.negotiator.specs.StandIns.{IsNoLaterThan}
 use Rattle.negotiator.specs.Between.{HasWalk, StaysWithin}
 
 -- the place of the first predicate that holds of the packet, or the number of predicates
@@ -34,7 +34,7 @@ module _ (net : Network) (parent child : Policy) where
 
   -- the child allows the packet no more than the parent does, or it comes no earlier than one to which the child allows more
   abbrev pub StaysOrComesLater : ℕ → ℕ → Packet → Option WidePacket → Type 0
-  StaysOrComesLater s d p wide = StaysWithin net parent child s d (match_of child p) (match_of parent p) ⊎ MatchOption wide ⊥ (λ w. IsNotAfter w.packet p)
+  StaysOrComesLater s d p wide = StaysWithin net parent child s d (match_of child p) (match_of parent p) ⊎ MatchOption wide ⊥ (λ w. IsNoLaterThan w.packet p)
 
   -- the packet goes from one host to the other, and its statement in the child has a walk between them
   pub record IsInTouch (s d : ℕ) (p : Packet) : Type 0 where
@@ -71,8 +71,8 @@ preds_of_both parent child = map (λ st. st.pred) child.statements ++ map (λ st
 -- the one is one of both, and no later than either
 pub record IsLesser (known : Option WidePacket) (other result : WidePacket) : Type 0 where
   pub one : (result ≡ other) ⊎ MatchOption known ⊥ (λ k. result ≡ k)
-  pub not_after : IsNotAfter result.packet other.packet
-  pub not_after_known : MatchOption known ⊤ (λ k. IsNotAfter result.packet k.packet)
+  pub not_after : IsNoLaterThan result.packet other.packet
+  pub not_after_known : MatchOption known ⊤ (λ k. IsNoLaterThan result.packet k.packet)
 
 -- the lesser of both, unless the new one stays within
 abbrev pub IsWideWith : Bool → Option WidePacket → WidePacket → Option WidePacket → Type 0

@@ -22,14 +22,14 @@ abbrev pub AreJudgedAlike : List Pred → Packet → Packet → Type 0
 AreJudgedAlike preds p q = AllByRecursion (λ pred. holds pred p ≡ holds pred q) preds
 
 -- the packet is no later than the other
-abbrev pub IsNotAfter : Packet → Packet → Type 0
-IsNotAfter c p = (c ≡ p) ⊎ ComesBefore c p
+abbrev pub IsNoLaterThan : Packet → Packet → Type 0
+IsNoLaterThan c p = (c ≡ p) ⊎ ComesBefore c p
 
 -- Packets between two hosts, of which one is no later than each packet between them, and is judged alike.
 pub record AreStandIns (preds : List Pred) (src dst : HostAddress) (packets : List Packet) : Type 0 where
   pub between : AllByRecursion (λ c. IsPacket c × IsBetween c src dst) packets
   pub each : (p : Packet) → IsPacket p → IsBetween p src dst →
-      (c : Packet) × Contains packets c × IsNotAfter c p × AreJudgedAlike preds p c
+      (c : Packet) × Contains packets c × IsNoLaterThan c p × AreJudgedAlike preds p c
 
 -- How they are found: each value that is mentioned, and the least of all others.
 

@@ -59,7 +59,7 @@ fn compared(alloc: Global, case: &Case<'_>) -> Result<Comparison, OutOfMemory>
 ///
 /// # Errors
 /// Where memory ran out.
-pub fn compare(
+pub fn compare_policies(
     alloc: Global,
     parent: &Checked,
     child: &Checked,

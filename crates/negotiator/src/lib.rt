@@ -7,7 +7,7 @@ mod paths;
 mod stand_ins;
 mod verdicts;
 
-pub use comparing::{Comparison, compare};
+pub use comparing::{Comparison, compare_policies};
 pub use contacts::Contact;
 pub use merlin_model::OutOfMemory;
 pub use paths::WidePath;

@@ -31,7 +31,8 @@ fn least_word(
     requires wide { IsWide case.now.net.now
         case.now.parent.now.policy case.now.child.now.policy wide.now }
     ensures { IfOk result (λ word. MatchOption word ⊥ (IsLeastStrayFor case.now.net.now
-        case.now.parent.now.policy case.now.child.now.policy case.now.symbols.now wide.now.packet)) }
+        case.now.parent.now.policy case.now.child.now.policy
+        case.now.symbols.now wide.now.packet)) }
 {
     let _lawful = case.net.locations();
     let _statements = (case.child.statements(), case.parent.statements());

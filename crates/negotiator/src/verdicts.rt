@@ -3,7 +3,7 @@
 ghost use Rattle.std.specs.Prelude.{◌≡◌, ◌<◌, ◌↔◌, IsTrue, length, IfOk};
 ghost use Rattle.merlin_model.specs.Networks.{IsHost};
 ghost use Rattle.merlin_model.specs.Policies.{paths_of};
-ghost use Rattle.negotiator.specs.Between.{HasWalk, StaysWithin, AcceptsNothing, IsCase, IsVerdict};
+ghost use Rattle.negotiator.specs.Between.{HasWalk, StaysWithin, AcceptsNothing, IsCase, IsWalkVerdict};
 
 use language_check::included;
 use merlin_model::OutOfMemory;
@@ -25,7 +25,7 @@ pub struct Case<'a> {
 
 /// Whether the child's statement has a walk between two hosts, and whether all of these are on the path of the parent's.
 #[derive(Clone, Copy)]
-pub struct Verdict {
+pub struct WalkVerdict {
     pub walks: bool,
     pub stays: bool,
 }
@@ -92,20 +92,20 @@ pub(crate) fn verdict_on(
     dst: usize,
     of_child: usize,
     of_parent: usize,
-) -> Result<Verdict, OutOfMemory>
+) -> Result<WalkVerdict, OutOfMemory>
     requires case { IsCase case.now }
     requires src { IsHost case.now.net.now src }
     requires dst { IsHost case.now.net.now dst }
     requires of_child { of_child < length (paths_of case.now.child.now.policy) }
     requires of_parent { of_parent < length (paths_of case.now.parent.now.policy) }
-    ensures { IfOk result (IsVerdict case.now src dst of_child of_parent) }
+    ensures { IfOk result (IsWalkVerdict case.now src dst of_child of_parent) }
 {
     if !has_walk(alloc, case, src, dst, of_child)? {
-        return Ok(Verdict {
+        return Ok(WalkVerdict {
             walks: false,
             stays: true,
         });
     }
     let stays = stays_within(alloc, case, src, dst, of_child, of_parent)?;
-    Ok(Verdict { walks: true, stays })
+    Ok(WalkVerdict { walks: true, stays })
 }

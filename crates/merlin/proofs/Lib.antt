@@ -5,8 +5,9 @@ pub mod Printable
 pub mod Lines
 pub mod Unique
 pub mod Outcomes
+pub mod PlainKept
+pub mod Named
 pub mod Compiling
-pub mod Faulty
 pub mod Refuting
 pub mod Runs
 pub mod Replies

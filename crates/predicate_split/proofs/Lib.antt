@@ -21,3 +21,4 @@ pub mod Lefts
 pub mod Stretching
 pub mod CellCounts
 pub mod CellLists
+pub mod Meeting

@@ -3,7 +3,7 @@ use Rattle.policy_check.specs.Sharing.{ShareAutomata}
 use Rattle.policy_check.proofs.Sound.{formed-preds}
 use Rattle.policy_check.proofs.Keeping.{kept, check-of}
 use Rattle.policy_names.specs.Names.{raw_paths}
-use Rattle.policy_check.proofs.checking.check.Goals as goal
+use Rattle.policy_check.proofs.checking.check_over.Goals as goal
 
 pub judge-requires : goal.judge-requires
 judge-requires c = record { formed = formed-preds c.args.policy.now.statements c.requires.formed.preds }

@@ -3,11 +3,13 @@
 
 use merlin::run;
 use merlin_base::{Status, StdFiles, StdSink};
+use packet_model::Packet;
 use packet_trace::declared;
 use std::alloc::AllocError;
 use std::process::ExitCode;
 use std::rt::Env;
 use std::{env, io};
+use topology::FnDecl;
 
 // The words after the program's name. Words that are no text count as none, which is no form of a command.
 fn words_of(rt: &(impl Env + AllocGlobal)) -> Result<Vec<String>, AllocError> {
@@ -24,6 +26,12 @@ fn main(rt: HostRuntime) -> ExitCode {
     };
     let mut files = StdFiles::new(&rt);
     let mut out = StdSink::new(&rt);
-    let status = run(rt.alloc(), &words, &mut files, &mut out, declared);
+    let status = run(
+        rt.alloc(),
+        &words,
+        &mut files,
+        &mut out,
+        |decl: &FnDecl, packet: Packet| declared(decl, packet),
+    );
     ExitCode::from(status.code())
 }

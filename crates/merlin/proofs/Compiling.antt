@@ -1,7 +1,7 @@
 -- What is replied to a policy and a topology: a text stands for one policy or is refused, and not
 -- both.
-use Rattle.std.proofs.Common.{◌≡◌, ◌≢◌, ◌⊎◌, inl, inr, List, [], ◌∷◌, ℕ, Result, Ok, Err, refl, sym, ◌∙◌, ap, subst, unwrap_or}
-use Rattle.std.specs.Prelude.{Option, Some}
+use Rattle.std.proofs.Common.{◌≡◌, ◌≢◌, inl, inr, List, [], ◌∷◌, ℕ, Result, Ok, Err, IfErr, refl, sym, ◌∙◌, ap, subst, unwrap_or}
+use Rattle.std.specs.Prelude.{Some}
 use Rattle.merlin_base.specs.declared.status.Status.TheVariants as status
 use Rattle.merlin_model.specs.Networks.{Network}
 use Rattle.policy_expansion.specs.declared.policy.Policy.{Policy}
@@ -9,16 +9,25 @@ use Rattle.policy_parser.specs.declared.fault.PolicyFault.{PolicyFault}
 use Rattle.policy_parser.specs.declared.fault.PolicyFault.TheVariants as faults
 use Rattle.policy_parser.specs.Policies.{IsPolicyText, IsRefused, AreOne}
 use Rattle.policy_parser.proofs.Once.{one_reading}
+use Rattle.policy_check.specs.declared.fault.CheckFault.{CheckFault}
+use Rattle.policy_check.specs.declared.fault.CheckFault.TheVariants as check_faults
+use Rattle.policy_check.specs.declared.fault.EndsFault.{EndsFault}
+use Rattle.policy_check.specs.declared.fault.EndsFault.TheVariants as ends_faults
+use Rattle.policy_check.specs.Rules.{BreaksRule}
+use Rattle.policy_check.specs.Ends.{BreaksEnds}
+use Rattle.policy_check.specs.Numbered.{numbered_policy}
+use Rattle.topology.specs.Symbols.{network_symbols}
 use Rattle.topology_rules.specs.Faults.{IsTopology, Refuses as IsRefusedTopology}
 use Rattle.topology_rules.specs.declared.fault.NetFault.{NetFault}
 use Rattle.topology_rules.specs.declared.fault.NetFault.TheVariants as net_faults
-use Rattle.merlin.specs.Compiler.{IsBuilt, AreRead, AreBuilt, AreUnbuilt, IsCompiledFrom, IsRefusal, IsEarlyFault, IsWantOfMemory}
+use Rattle.merlin.specs.Compiler.{plain_policy, IsCompilable, AreCompilable, AreUnbuilt, IsCompiledFrom, IsRefusal, IsFaultOver, IsEarlyFault, IsWantOfMemory}
 use Rattle.merlin.specs.Compile.{CompileForm, Compiles, IsCompileReply, compile_status}
 use Rattle.merlin.specs.declared.compiler.Compiled.{Compiled}
 use Rattle.merlin.specs.declared.compiler.EarlyFault.{EarlyFault}
 use Rattle.merlin.specs.declared.compiler.EarlyFault.TheVariants as early
 use Rattle.merlin.specs.declared.compile.CompileReply.{CompileReply}
 use Rattle.merlin.specs.declared.compile.CompileReply.TheVariants.{Refused, Least}
+use Rattle.merlin.proofs.PlainKept.{plain_keeps, plain_ends}
 
 Some-inj : {X : Type 0} {x y : X} → Some x ≡ Some y → x ≡ y
 Some-inj {x = x} e = ap (λ o. unwrap_or o x) e
@@ -53,28 +62,42 @@ is_want_policy fault e = subst (λ f. IsWantOfMemory (early.Policy f)) (sym e) t
 is_want_net : (fault : NetFault) → fault ≡ net_faults.OutOfMemory → IsWantOfMemory (early.Net fault)
 is_want_net fault e = subst (λ f. IsWantOfMemory (early.Net f)) (sym e) tt
 
+is_want_check : (fault : CheckFault) → fault ≡ check_faults.OutOfMemory → IsWantOfMemory (early.Check fault)
+is_want_check fault e = subst (λ f. IsWantOfMemory (early.Check f)) (sym e) tt
+
+is_want_ends : (fault : EndsFault) (text : List ℕ) → fault ≡ ends_faults.OutOfMemory → IsWantOfMemory (early.Ends fault text)
+is_want_ends fault text e = subst (λ f. IsWantOfMemory (early.Ends f text)) (sym e) tt
+
 module _ (known : Known) where
+  -- what is refused is the policy that is built
+  plain_read : (p t : List ℕ) (net : Network) (raw : Policy) → AreCompilable p t net → IsPolicyText p raw → raw ≡ plain_policy
+  plain_read p t net raw is stands = same raw is.raw (one_reading p (Ok raw) (Ok is.raw) stands is.read.stands) ∙ is.built.policy
+
   -- two texts stand for one policy and one network
-  not_both : (p t : List ℕ) (net : Network) → AreBuilt p t net → AreUnbuilt p t → ⊥
+  not_both : (p t : List ℕ) (net : Network) → AreCompilable p t net → AreUnbuilt p t → ⊥
   not_both p t net is other =
       let policy : is.raw ≡ other.raw = same is.raw other.raw (one_reading p (Ok is.raw) (Ok other.raw) is.read.stands other.read.stands) in
       let network : net ≡ other.net = known.one t net other.net is.read.network other.read.network in
-      other.other (subst (λ n. IsBuilt other.raw n) network (subst (λ r. IsBuilt r net) policy is.built))
+      other.other (subst (λ n. IsCompilable other.raw n) network (subst (λ r. IsCompilable r net) policy is.built))
 
   -- what is refused stands for nothing that is built
   pub IsRefusal-not : (fault : EarlyFault) (policy topology : List ℕ) (net : Network)
-      → AreBuilt policy topology net → IsRefusal fault policy topology → ⊥
+      → AreCompilable policy topology net → IsRefusal fault policy topology → ⊥
   IsRefusal-not (early.Policy fault) policy topology net is (told, stops) = not_refused policy is.raw fault (λ e. told (is_want_policy fault e)) is.read.stands stops
   IsRefusal-not (early.Net fault) policy topology net is (told, stops) = told (is_want_net fault (known.apart topology net fault is.read.network stops.refused))
+  IsRefusal-not (early.Check fault) policy topology net is (told, stops) =
+      told (is_want_check fault (plain_keeps stops.net (network_symbols stops.net) fault (subst (λ r. BreaksRule stops.net (network_symbols stops.net) r fault) (plain_read policy topology net stops.raw is stops.read.stands) stops.refused)))
+  IsRefusal-not (early.Ends fault text) policy topology net is (told, stops) =
+      told (is_want_ends fault text (plain_ends stops.net fault (subst (λ r. BreaksEnds stops.net (numbered_policy stops.net r) fault) (plain_read policy topology net stops.raw is stops.read.stands) stops.refused.1.0)))
   IsRefusal-not early.Unbuilt policy topology net is (told, stops) = not_both policy topology net is stops
   IsRefusal-not early.OutOfMemory policy topology net is (told, stops) = told tt
 
-  pub Compiles-done : (form : CompileForm) (p t : List ℕ) (net : Network) → AreBuilt p t net
+  pub Compiles-done : (form : CompileForm) (p t : List ℕ) (net : Network) → AreCompilable p t net
       → (r : CompileReply) → Compiles form p t r → compile_status r ≡ status.Done
   Compiles-done form p t net is (Refused fault) h = absurd (IsRefusal-not fault p t net is h)
   Compiles-done form p t net is (Least compiled) h = refl
 
-  built : (p t : List ℕ) (form : CompileForm) (compiled : Compiled) → IsCompiledFrom p t form.objective compiled → AreBuilt p t compiled.net
+  built : (p t : List ℕ) (form : CompileForm) (compiled : Compiled) → IsCompiledFrom p t form.objective compiled → AreCompilable p t compiled.net
   built p t form compiled k = record { raw = k.input.raw; read = k.input.read; built = k.input.built }
 
   pub Compiles-one : (form : CompileForm) (p t : List ℕ) (r s : CompileReply) → Compiles form p t r
@@ -82,6 +105,20 @@ module _ (known : Known) where
   Compiles-one form p t (Refused fault) (Refused other) h k = refl
   Compiles-one form p t (Refused fault) (Least compiled) h k = absurd (IsRefusal-not fault p t compiled.net (built p t form compiled k) h)
   Compiles-one form p t (Least compiled) s h k = Compiles-done form p t compiled.net (built p t form compiled h) s k
+
+-- what is wrong over the topology, once the policy is read
+
+pub fault_over : (raw : Policy) (p t : List ℕ) → IsPolicyText p raw → (fault : EarlyFault) → IsFaultOver raw t fault → IsEarlyFault fault p t
+fault_over raw p t stands (early.Policy fault) h = absurd h
+fault_over raw p t stands (early.Net fault) h = record { raw = raw; stands = stands; refused = h }
+fault_over raw p t stands (early.Check fault) h = record { raw = raw; net = h.0; read = record { stands = stands; network = h.1 }; refused = h.2 }
+fault_over raw p t stands (early.Ends fault text) h = record { raw = raw; net = h.0; read = record { stands = stands; network = h.1 }; refused = h.2 }
+fault_over raw p t stands early.Unbuilt h = record { raw = raw; net = h.0; read = record { stands = stands; network = h.1 }; accepted = h.2; other = h.3 }
+fault_over raw p t stands early.OutOfMemory h = tt
+
+pub result_over : {X : Type 0} (raw : Policy) (p t : List ℕ) → IsPolicyText p raw → (result : Result X EarlyFault) → IfErr result (IsFaultOver raw t) → IfErr result (λ fault. IsEarlyFault fault p t)
+result_over raw p t stands (Ok x) h = tt
+result_over raw p t stands (Err fault) h = fault_over raw p t stands fault h
 
 -- the same of what the files hold
 

@@ -11,7 +11,7 @@ ghost use Rattle.merlin.specs.declared.compile.CompileReply.{CompileReply};
 ghost use Rattle.merlin.specs.declared.refute.RefuteReply.{RefuteReply};
 ghost use Rattle.merlin.specs.declared.refute.RefuteReply.TheVariants as refute;
 ghost use Rattle.merlin.specs.Compile.{CompileForm, IsCompileReply, compile_status};
-ghost use Rattle.merlin.specs.Compiler.{AreBuilt};
+ghost use Rattle.merlin.specs.Compiler.{AreCompilable};
 ghost use Rattle.merlin.specs.Refute.{IsProgramOf, IsTreeOf, IsRefuteReply, refute_status};
 ghost use Rattle.fair_share.specs.declared.share.Share.{Share};
 ghost use Rattle.fair_share.specs.Shares.{Demands, IsSound};
@@ -28,7 +28,7 @@ use topology_rules::laws::one_network;
 /// status.
 pub fn compile_replies()
     ensures done { (form : CompileForm) (policy topology : List ℕ) (net : Network)
-        (reply : CompileReply) → AreBuilt policy topology net →
+        (reply : CompileReply) → AreCompilable policy topology net →
         IsCompileReply form (policy ∷ topology ∷ []) reply → compile_status reply ≡ status.Done }
     ensures one { (form : CompileForm) (contents : List (List ℕ)) (reply other : CompileReply) →
         IsCompileReply form contents reply → IsCompileReply form contents other →

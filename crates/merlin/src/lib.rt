@@ -1,6 +1,7 @@
 //! The program as one call: from the words of a command over files to lines on a sink.
 #![tactic(auto)]
 
+mod accepting;
 mod commands;
 mod compile;
 mod compiler;

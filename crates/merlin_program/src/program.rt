@@ -63,6 +63,20 @@ pub fn program_of(
 }
 
 impl MerlinProgram {
+    /// The flows and links whose program it is.
+    pub fn problem(&self) -> &Problem
+        ensures { result.now ≡ self.now.problem }
+    {
+        &self.problem
+    }
+
+    /// Its variables: the edges of all flows, in the order of their numbers.
+    pub fn edges(&self) -> &[Variable]
+        ensures { result.now ≡ variables_of self.now.problem }
+    {
+        self.variables.as_slice()
+    }
+
     /// What a variable costs, whatever the objective: its rate as often as the weight of the link that it crosses says, else 0.
     pub fn cost(&self, variable: usize) -> u64
         requires { variable < length (variables_of self.now.problem) }

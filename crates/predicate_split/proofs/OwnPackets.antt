@@ -90,8 +90,19 @@ not_above a b e = omega arith
 
 between-below : (src dst : HostAddress) (p : Packet) (proto sport dport : ℕ) → GoesBetween src dst p → proto ≤ p.proto → sport ≤ p.sport → dport ≤ p.dport → IsNotAfter (fields_of (packet_between src dst proto sport dport)) (fields_of p)
 between-below src dst p proto sport dport at m s d =
-    inr (sym at.eth_src, inr (sym at.eth_dst, inr (sym at.ip_src, inr (sym at.ip_dst,
-    step-below proto p.proto (sport ∷ dport ∷ []) (p.sport ∷ p.dport ∷ []) m (step-below sport p.sport (dport ∷ []) (p.dport ∷ []) s (step-below dport p.dport [] [] d tt))))))
+    inr (
+      sym at.eth_src,
+      inr (
+        sym at.eth_dst,
+        inr (
+          sym at.ip_src,
+          inr (
+            sym at.ip_dst,
+            step-below proto p.proto (sport ∷ dport ∷ []) (p.sport ∷ p.dport ∷ []) m (step-below sport p.sport (dport ∷ []) (p.dport ∷ []) s (step-below dport p.dport [] [] d tt)),
+          ),
+        ),
+      ),
+    )
 
 between-packet : (src dst : HostAddress) (p : Packet) (proto sport dport : ℕ) → IsPacket p → GoesBetween src dst p → proto ≤ p.proto → sport ≤ p.sport → dport ≤ p.dport →
     (proto ≢ 6 → proto ≢ 17 → (sport ≡ 0) × (dport ≡ 0)) → IsPacket (packet_between src dst proto sport dport)

@@ -15,7 +15,7 @@ use Rattle.merlin_model.specs.Networks.{Network, Pairwise, AreDifferent, kind_of
 use Rattle.merlin_model.specs.Words.{at, IsSymbol}
 use Rattle.merlin_model.proofs.Members.{In, in_from, in_to, all_in, in_append, in_map, map_in, in_flat_map, flat_map_in, in_filter, filter_in}
 use Rattle.topology_rules.proofs.Distinct.{pairwise_weaken, pairwise_map}
-use Rattle.topology.specs.Symbols.{is_placed_at, functions_at, at_with, symbols_at, symbols_among, network_symbols}
+use Rattle.topology.specs.Symbols.{is_placed_at, functions_placed_at, at_with, symbols_at, symbols_among, network_symbols}
 
 -- One function more, and one location more.
 
@@ -33,14 +33,14 @@ number numbered = numbered.0
 
 -- the symbols at a location that have a function
 abbrev pub with_functions : List FnDecl → ℕ → List Symbol
-with_functions fs loc = map (at_with loc) (functions_at fs loc)
+with_functions fs loc = map (at_with loc) (functions_placed_at fs loc)
 
-functions_more : (fs : List FnDecl) (f : FnDecl) (loc : ℕ) (b : Bool) → is_placed_at loc f ≡ b → functions_at (fs ++ f ∷ []) loc ≡ functions_at fs loc ++ cond b (length fs ∷ []) []
+functions_more : (fs : List FnDecl) (f : FnDecl) (loc : ℕ) (b : Bool) → is_placed_at loc f ≡ b → functions_placed_at (fs ++ f ∷ []) loc ≡ functions_placed_at fs loc ++ cond b (length fs ∷ []) []
 functions_more fs f loc b is =
     ap (λ (ps : List (ℕ × FnDecl)). map number (filter (placed loc) ps)) (numbered_more 0 fs f ∙ ap (λ (k : ℕ). enumerate_from 0 fs ++ (k, f) ∷ []) (zero-add (length fs)))
     ∙ (ap (map number) (filter-append (placed loc) (enumerate_from 0 fs) ((length fs, f) ∷ []))
     ∙ (map-append number (filter (placed loc) (enumerate_from 0 fs)) (filter (placed loc) ((length fs, f) ∷ []))
-    ∙ ap (λ (ks : List ℕ). functions_at fs loc ++ ks) (by b is)))
+    ∙ ap (λ (ks : List ℕ). functions_placed_at fs loc ++ ks) (by b is)))
   where
     by : (b : Bool) → is_placed_at loc f ≡ b → map number (filter (placed loc) ((length fs, f) ∷ [])) ≡ cond b (length fs ∷ []) []
     by b is = ap (λ (c : Bool). map number (cond c ((length fs, f) ∷ []) [])) is ∙ each b
@@ -61,13 +61,13 @@ module _ (fs : List FnDecl) (i : ℕ) (f : FnDecl) (loc : ℕ) (within : i < len
       append_assoc front (with_functions (take i fs) loc) (at_with loc i ∷ [])
       ∙ ap (λ (ss : List Symbol). front ++ ss) (sym (ap (λ (gs : List FnDecl). with_functions gs loc) longer
       ∙ (ap (map (at_with loc)) (functions_more (take i fs) f loc true there)
-      ∙ (map-append (at_with loc) (functions_at (take i fs) loc) (length (take i fs) ∷ [])
+      ∙ (map-append (at_with loc) (functions_placed_at (take i fs) loc) (length (take i fs) ∷ [])
       ∙ ap (λ (k : ℕ). with_functions (take i fs) loc ++ at_with loc k ∷ []) so_long))))
 
   pub one_more_elsewhere : is_placed_at loc f ≡ false → with_functions (take i fs) loc ≡ with_functions (take (i + 1) fs) loc
   one_more_elsewhere away =
       sym (ap (λ (gs : List FnDecl). with_functions gs loc) longer
-      ∙ ap (map (at_with loc)) (functions_more (take i fs) f loc false away ∙ append-nil (functions_at (take i fs) loc)))
+      ∙ ap (map (at_with loc)) (functions_more (take i fs) f loc false away ∙ append-nil (functions_placed_at (take i fs) loc)))
 
 -- all functions, after the location alone
 pub all_functions : (fs : List FnDecl) (i loc : ℕ) → length fs ≤ i → (front : List Symbol) → (front ++ at loc ∷ []) ++ with_functions (take i fs) loc ≡ front ++ symbols_at fs loc
@@ -147,7 +147,7 @@ any-to loc (place ∷ places) (inr i) = ap (λ (b : Bool). (place == loc) || b) 
     each false = refl
 
 -- the numbers of the functions at a location
-function-from : (fs : List FnDecl) (loc fun : ℕ) → In fun (functions_at fs loc) → (f : FnDecl) × (slice_get fs fun ≡ Some f) × Contains f.places loc
+function-from : (fs : List FnDecl) (loc fun : ℕ) → In fun (functions_placed_at fs loc) → (f : FnDecl) × (slice_get fs fun ≡ Some f) × Contains f.places loc
 function-from fs loc fun i =
     let mapped = in_map number (filter (placed loc) (enumerate_from 0 fs)) fun i in
     let kept = in_filter (placed loc) (enumerate_from 0 fs) mapped.0 mapped.1 in
@@ -155,11 +155,11 @@ function-from fs loc fun i =
     let same : found.0 ≡ fun = omega (arith, found.1, mapped.2) in
     (mapped.0.1, subst (λ (k : ℕ). slice_get fs k ≡ Some mapped.0.1) same found.2, in_to mapped.0.1.places loc (any-from loc mapped.0.1.places kept.1))
 
-function-to : (fs : List FnDecl) (loc fun : ℕ) (f : FnDecl) → slice_get fs fun ≡ Some f → Contains f.places loc → In fun (functions_at fs loc)
+function-to : (fs : List FnDecl) (loc fun : ℕ) (f : FnDecl) → slice_get fs fun ≡ Some f → Contains f.places loc → In fun (functions_placed_at fs loc)
 function-to fs loc fun f stands there =
     let numbered = numbered-in 0 fs fun f stands in
     let kept = filter_in (placed loc) (enumerate_from 0 fs) (0 + fun, f) numbered (any-to loc f.places (in_from f.places loc there)) in
-    subst (λ (k : ℕ). In k (functions_at fs loc)) (zero-add fun) (map_in number (filter (placed loc) (enumerate_from 0 fs)) (0 + fun, f) kept)
+    subst (λ (k : ℕ). In k (functions_placed_at fs loc)) (zero-add fun) (map_in number (filter (placed loc) (enumerate_from 0 fs)) (0 + fun, f) kept)
 
 -- a symbol at a location of a network is one of the symbols there, and the other way round
 module _ (net : Network) where
@@ -168,13 +168,13 @@ module _ (net : Network) where
 
   runs-to : (loc : ℕ) (fun : Option ℕ) → Runs loc fun → In (record { loc = loc; fun = fun }) (symbols_at net.functions loc)
   runs-to loc None runs = inl refl
-  runs-to loc (Some f) runs = inr (map_in (at_with loc) (functions_at net.functions loc) f (by (slice_get net.functions f) refl runs))
+  runs-to loc (Some f) runs = inr (map_in (at_with loc) (functions_placed_at net.functions loc) f (by (slice_get net.functions f) refl runs))
     where
-      by : (o : Option FnDecl) → slice_get net.functions f ≡ o → MatchOption (option_map (λ g. g.places) o) ⊥ (λ places. Contains places loc) → In f (functions_at net.functions loc)
+      by : (o : Option FnDecl) → slice_get net.functions f ≡ o → MatchOption (option_map (λ g. g.places) o) ⊥ (λ places. Contains places loc) → In f (functions_placed_at net.functions loc)
       by None e h = absurd h
       by (Some g) e h = function-to net.functions loc f g e h
 
-  runs-from : (loc fun : ℕ) → In fun (functions_at net.functions loc) → Runs loc (Some fun)
+  runs-from : (loc fun : ℕ) → In fun (functions_placed_at net.functions loc) → Runs loc (Some fun)
   runs-from loc fun i =
       let found = function-from net.functions loc fun i in
       subst (λ (o : Option FnDecl). MatchOption (option_map (λ g. g.places) o) ⊥ (λ places. Contains places loc)) (sym found.1) found.2
@@ -212,7 +212,7 @@ module _ (net : Network) where
       by : (loc : ℕ) → loc < length net.locations → In x (symbols_at net.functions loc) → IsSymbol net x
       by loc within (inl e) = subst (IsSymbol net) (sym e) (there-from loc None within tt)
       by loc within (inr i) =
-          let mapped = in_map (at_with loc) (functions_at net.functions loc) x i in
+          let mapped = in_map (at_with loc) (functions_placed_at net.functions loc) x i in
           subst (IsSymbol net) (sym mapped.2) (there-from loc (Some mapped.0) within (runs-from loc mapped.0 mapped.1))
 
 -- No symbol stands twice.
@@ -244,13 +244,13 @@ numbers-apart n (f ∷ fs) = (all_from (λ q. n ≢ q.0) (enumerate_from (n + 1)
     later : (q : ℕ × FnDecl) → (i : ℕ) × (q.0 ≡ n + 1 + i) × (slice_get fs i ≡ Some q.1) → n ≢ q.0
     later q found e = let no : ⊥ = omega (arith, found.1, e) in no
 
-functions-apart : (fs : List FnDecl) (loc : ℕ) → AreDifferent (functions_at fs loc)
+functions-apart : (fs : List FnDecl) (loc : ℕ) → AreDifferent (functions_placed_at fs loc)
 functions-apart fs loc = pairwise_map number (λ u v. u ≢ v) (filter (placed loc) (enumerate_from 0 fs)) (pairwise-filter (λ p q. p.0 ≢ q.0) (placed loc) (enumerate_from 0 fs) (numbers-apart 0 fs))
 
 symbols-apart : (fs : List FnDecl) (loc : ℕ) → AreDifferent (symbols_at fs loc)
 symbols-apart fs loc = (
-  all_from (λ x. at loc ≢ x) (map (at_with loc) (functions_at fs loc)) (λ x i. let mapped = in_map (at_with loc) (functions_at fs loc) x i in bare x mapped.0 mapped.2),
-  pairwise_map (at_with loc) (λ x y. x ≢ y) (functions_at fs loc) (pairwise_weaken (λ f g differ same. differ (one f g same)) (functions_at fs loc) (functions-apart fs loc)),
+  all_from (λ x. at loc ≢ x) (map (at_with loc) (functions_placed_at fs loc)) (λ x i. let mapped = in_map (at_with loc) (functions_placed_at fs loc) x i in bare x mapped.0 mapped.2),
+  pairwise_map (at_with loc) (λ x y. x ≢ y) (functions_placed_at fs loc) (pairwise_weaken (λ f g differ same. differ (one f g same)) (functions_placed_at fs loc) (functions-apart fs loc)),
 )
   where
     never : (f : ℕ) → None ≡ Some f → ⊥
@@ -264,7 +264,7 @@ symbols-apart fs loc = (
 
 its_location : (fs : List FnDecl) (loc : ℕ) (x : Symbol) → In x (symbols_at fs loc) → x.loc ≡ loc
 its_location fs loc x (inl e) = ap (λ (y : Symbol). y.loc) e
-its_location fs loc x (inr i) = let mapped = in_map (at_with loc) (functions_at fs loc) x i in ap (λ (y : Symbol). y.loc) mapped.2
+its_location fs loc x (inr i) = let mapped = in_map (at_with loc) (functions_placed_at fs loc) x i in ap (λ (y : Symbol). y.loc) mapped.2
 
 among-apart : (fs : List FnDecl) (a n : ℕ) → AreDifferent (flat_map (symbols_at fs) (range_with_len a n))
 among-apart fs a zero = tt

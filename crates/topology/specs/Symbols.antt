@@ -10,8 +10,8 @@ abbrev pub is_placed_at : ℕ → FnDecl → Bool
 is_placed_at loc function = list_any (λ place. place == loc) function.places
 
 -- the numbers of the functions that are placed at a location, ascending
-abbrev pub functions_at : List FnDecl → ℕ → List ℕ
-functions_at functions loc =
+abbrev pub functions_placed_at : List FnDecl → ℕ → List ℕ
+functions_placed_at functions loc =
     map (λ numbered. numbered.0) (filter (λ numbered. is_placed_at loc numbered.1) (enumerate_from 0 functions))
 
 -- a location with a function
@@ -20,7 +20,7 @@ at_with loc fun = record { loc = loc; fun = Some fun }
 
 -- the symbols at a location: it alone, then with each function that is placed there
 abbrev pub symbols_at : List FnDecl → ℕ → List Symbol
-symbols_at functions loc = at loc ∷ map (at_with loc) (functions_at functions loc)
+symbols_at functions loc = at loc ∷ map (at_with loc) (functions_placed_at functions loc)
 
 -- the symbols at the first locations, so many of them
 abbrev pub symbols_among : List FnDecl → ℕ → List Symbol

@@ -12,7 +12,7 @@ use merlin_model::policy::Objective;
 use packet_model::{Packet, print_packet};
 use packet_trace::{End, Trace, Tracer, declared};
 use std::alloc::Global;
-use topology::Topology;
+use topology::{FnDecl, Topology};
 
 fn is_host(net: &Topology, loc: usize) -> bool
     ensures { IsTrue result → IsHost net.now loc }
@@ -64,11 +64,20 @@ fn follow(alloc: Global, compiled: &Compiled, host: usize, packet: Packet, out: 
         out.answer(1, "no host");
         return;
     }
-    let tracer = Tracer::new(&compiled.net, &compiled.config, declared);
+    let tracer = Tracer::new(
+        &compiled.net,
+        &compiled.config,
+        |decl: &FnDecl, packet: Packet| declared(decl, packet),
+    );
     match tracer.trace(alloc, host, packet) {
         Ok(trace) => describe(alloc, out, &compiled.net, &trace),
         Err(_) => out.cut(),
     }
+    let Tracer {
+        net: _net,
+        config: _config,
+        apply: _apply,
+    } = tracer;
 }
 
 fn follow_from(alloc: Global, compiled: &Compiled, words: &str, out: &mut Lines) {

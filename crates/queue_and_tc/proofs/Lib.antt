@@ -1,0 +1,5 @@
+pub mod RatesByPlace
+pub mod Crossed
+pub mod ClassNumbers
+pub mod HostLaws
+pub mod Owned

@@ -27,7 +27,7 @@ use Rattle.price_bound.specs.declared.costs.Costs.{Costs}
 use Rattle.price_bound.specs.Asked.{measured}
 use Rattle.price_bound.specs.Steps.{edges_in}
 use Rattle.price_bound.specs.Graphs.{IsPermittedStep}
-use Rattle.price_bound.specs.Spreads.{IsSpread, IsMarked, variables_along, variable_of_step}
+use Rattle.price_bound.specs.Spreads.{IsFlowSpread, IsMarked, variables_along, variable_of_step}
 use Rattle.price_bound.specs.Numbers.{AreCosts, IsCutAt}
 use Rattle.price_bound.proofs.WayBack.{reverse-cons}
 use Rattle.price_bound.proofs.Sizes.{measured-small}
@@ -83,7 +83,7 @@ none-costs problem cutoff box count size = record {
     none (suc n) zero e = let bad : false ≡ true → ⊥ = λ x. cc in bad e
     none (suc n) (suc k) e = none n k e
 
-module _ (problem : Problem) (cutoff : Option Value) (box : List (Option Bool)) (n : ℕ) (measure : Measure) (flow : Flow) (spread : Spread) (is : IsProblem problem) (sp : IsSpread problem cutoff box n (measured problem measure) flow spread) where
+module _ (problem : Problem) (cutoff : Option Value) (box : List (Option Bool)) (n : ℕ) (measure : Measure) (flow : Flow) (spread : Spread) (is : IsProblem problem) (sp : IsFlowSpread problem cutoff box n (measured problem measure) flow spread) where
   pub end-is : spread.graph.vertices - 1 ≡ last_of flow
   end-is = let s = sp.graph.size in omega arith
 
@@ -121,7 +121,7 @@ module _ (problem : Problem) (cutoff : Option Value) (box : List (Option Bool)) 
   steps-within point size = all_so (IsPermittedStep problem cutoff box n (measured problem measure)) (λ s. s.variable < length point) spread.graph.steps (λ s p. let h = slice_get_within (variables_of problem) s.variable p.v p.stands in omega arith) sp.graph.are.each
 
 -- One more flow has its costs and its path.
-pub costs-more : (problem : Problem) (cutoff : Option Value) (box : List (Option Bool)) (n : ℕ) (flow : Flow) (spread : Spread) (is : IsProblem problem) (sp : IsSpread problem cutoff box n (measured problem Cost) flow spread) → slice_get problem.flows n ≡ Some flow →
+pub costs-more : (problem : Problem) (cutoff : Option Value) (box : List (Option Bool)) (n : ℕ) (flow : Flow) (spread : Spread) (is : IsProblem problem) (sp : IsFlowSpread problem cutoff box n (measured problem Cost) flow spread) → slice_get problem.flows n ≡ Some flow →
     (most : ℕ) → known_at spread.least.distance (last_of flow) ≡ Some most → (r : IsReachedEnd problem cutoff box n Cost flow spread is sp most) → (old : Costs) (numbers : List ℕ) (point : List Bool) → AreCosts problem cutoff box n old → numbers ≡ old.numbers ++ map (capped most) spread.least.distance →
     IsMarked (variables_along spread.graph.steps r.ks) old.point point → AreCosts problem cutoff box (n + 1) (record { numbers = numbers; point = point })
 costs-more problem cutoff box n flow spread is sp stands most e r old numbers point are more marked = record {
@@ -195,7 +195,7 @@ costs-more problem cutoff box n flow spread is sp stands most e r old numbers po
         by (inr i) = (marked.chosen k).1 (inr (in_to (variables_along spread.graph.steps r.ks) k (from-turned spread.graph.steps r.ks k i)))
 
 -- A flow whose end has no distance is cut.
-pub cut-is : (problem : Problem) (cutoff : Option Value) (box : List (Option Bool)) (n : ℕ) (flow : Flow) (spread : Spread) (is : IsProblem problem) → IsSpread problem cutoff box n (measured problem Cost) flow spread → slice_get problem.flows n ≡ Some flow →
+pub cut-is : (problem : Problem) (cutoff : Option Value) (box : List (Option Bool)) (n : ℕ) (flow : Flow) (spread : Spread) (is : IsProblem problem) → IsFlowSpread problem cutoff box n (measured problem Cost) flow spread → slice_get problem.flows n ≡ Some flow →
     known_at spread.least.distance (last_of flow) ≡ None → (numbers : List ℕ) → numbers ≡ flow_weights (only n (λ vertex. missing (known_at spread.least.distance vertex))) 0 problem.flows → IsCutAt problem cutoff box numbers
 cut-is problem cutoff box n flow spread is sp stands none numbers flat = record {
   n = n;

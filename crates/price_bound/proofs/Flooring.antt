@@ -19,7 +19,7 @@ use Rattle.price_candidates.proofs.Spreading.{least-reached}
 use Rattle.price_bound.specs.declared.measure.Measure.TheVariants.{Rate}
 use Rattle.price_bound.specs.declared.spread.Spread.{Spread}
 use Rattle.price_bound.specs.Asked.{measured}
-use Rattle.price_bound.specs.Spreads.{IsSpread}
+use Rattle.price_bound.specs.Spreads.{IsFlowSpread}
 use Rattle.price_bound.specs.Numbers.{AreFloors, EachIsReached}
 use Rattle.price_bound.proofs.Flat.{with_flow, flat-more, small-with, map-known, zeros-from}
 use Rattle.price_bound.proofs.Costing.{capped-most, sums, distances-are, reached-end}
@@ -54,7 +54,7 @@ floors-more problem cutoff box link n flow new old numbers stands are start low 
         let low_m : m < n = grind arith in
         subst (λ b. IsFloorOf problem cutoff box link m g (λ u. cond b (new u) (are.at m u))) (sym e) (are.floors m g low_m s)
 
-module _ (problem : Problem) (cutoff : Option Value) (box : List (Option Bool)) (link n : ℕ) (flow : Flow) (spread : Spread) (is : IsProblem problem) (sp : IsSpread problem cutoff box n (measured problem (Rate link)) flow spread) (stands : slice_get problem.flows n ≡ Some flow) where
+module _ (problem : Problem) (cutoff : Option Value) (box : List (Option Bool)) (link n : ℕ) (flow : Flow) (spread : Spread) (is : IsProblem problem) (sp : IsFlowSpread problem cutoff box n (measured problem (Rate link)) flow spread) (stands : slice_get problem.flows n ≡ Some flow) where
   -- a flow that has a path is reached
   pub is-reached : EachIsReached problem cutoff box → known_at spread.least.distance (last_of flow) ≡ None → ⊥
   is-reached each e =

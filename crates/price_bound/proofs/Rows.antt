@@ -6,7 +6,7 @@ use Rattle.merlin_model.specs.declared.network.DirectedLink.{DirectedLink}
 use Rattle.cutoff_program.specs.declared.flow.Problem.{Problem}
 use Rattle.cutoff_program.specs.Flows.{count_if}
 use Rattle.price_candidates.specs.Leaves.{Pricing, Bare, Lengths, OnLink, IsPriced, with_weight, weights_from, flow_weights, link_weights, link_of, prices_lengths, leaf_from}
-use Rattle.price_bound.specs.Priced.{rest, IsIn}
+use Rattle.price_bound.specs.Priced.{rest, IsPricedIn}
 
 pub together : (n m : ℕ) (ws vs : List Weight) → with_weight n m ws ++ vs ≡ with_weight n m (ws ++ vs)
 together n zero ws vs = refl
@@ -88,7 +88,7 @@ whole problem numbers pricing flat n before after is flat_is size was put =
         ∙ ap (λ k. weights_from 0 flat ++ weights_from k (links ++ last)) (let e : 0 + length flat ≡ length flat = omega arith in e)
         ∙ ap (λ ws. weights_from 0 flat ++ ws) (weights-append (length flat) links last ∙ rest-is problem pricing (length flat) is)
 
-pub priced-is : (problem : Problem) (pricing : Pricing) (links : ℕ) → links ≡ length problem.links → IsIn links pricing → IsPriced problem pricing
+pub priced-is : (problem : Problem) (pricing : Pricing) (links : ℕ) → links ≡ length problem.links → IsPricedIn links pricing → IsPriced problem pricing
 priced-is problem Bare links e is = tt
 priced-is problem Lengths links e is = tt
 priced-is problem (OnLink link) links e is = omega arith

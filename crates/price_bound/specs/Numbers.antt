@@ -48,9 +48,9 @@ abbrev pub IsAdded : Problem → Option Value → List (Option Bool) → ℕ →
 IsAdded problem cutoff box n costs (Some numbers) = IsCutAt problem cutoff box numbers
 IsAdded problem cutoff box n costs None = AreCosts problem cutoff box (n + 1) costs
 
-abbrev pub IsFound : Problem → Option Value → List (Option Bool) → Found → Type 0
-IsFound problem cutoff box (Cut numbers) = IsCutAt problem cutoff box numbers
-IsFound problem cutoff box (Paths costs) = AreCosts problem cutoff box (length problem.flows) costs
+abbrev pub ArePathsFound : Problem → Option Value → List (Option Bool) → Found → Type 0
+ArePathsFound problem cutoff box (Cut numbers) = IsCutAt problem cutoff box numbers
+ArePathsFound problem cutoff box (Paths costs) = AreCosts problem cutoff box (length problem.flows) costs
 
 -- what is tried of a link, for the first so many flows
 pub record AreFloors (problem : Problem) (cutoff : Option Value) (box : List (Option Bool)) (link count : ℕ) (numbers : List ℕ) : Type 0 where

@@ -17,7 +17,7 @@ rest links Lengths k = with_weight (k + links) 1 []
 rest links (OnLink link) k = with_weight (k + link) 1 []
 
 -- a priced link is one
-abbrev pub IsIn : ℕ → Pricing → Type 0
-IsIn links Bare = Unit {0}
-IsIn links Lengths = Unit {0}
-IsIn links (OnLink link) = link < links
+abbrev pub IsPricedIn : ℕ → Pricing → Type 0
+IsPricedIn links Bare = Unit {0}
+IsPricedIn links Lengths = Unit {0}
+IsPricedIn links (OnLink link) = link < links

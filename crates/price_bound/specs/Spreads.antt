@@ -20,7 +20,7 @@ abbrev pub variables_along : List Step → List ℕ → List ℕ
 variables_along steps js = map (λ j. variable_of_step (slice_get steps j)) js
 
 -- least sums from the start of a flow, over the edges that it may take
-pub record IsSpread (problem : Problem) (cutoff : Option Value) (box : List (Option Bool)) (n : ℕ) (f : Variable → ℕ) (flow : Flow) (spread : Spread) : Type 0 where
+pub record IsFlowSpread (problem : Problem) (cutoff : Option Value) (box : List (Option Bool)) (n : ℕ) (f : Variable → ℕ) (flow : Flow) (spread : Spread) : Type 0 where
   pub graph : IsPermittedGraph problem cutoff box n f flow spread.graph
   pub least : ArePotentials spread.graph.vertices (edges_in spread.graph.steps) 0 spread.least
 

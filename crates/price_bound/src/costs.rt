@@ -3,8 +3,8 @@
 ghost use Rattle.std.specs.Prelude.{ℕ, ◌≡◌, ◌<◌, length, replicate, false, IfOk};
 ghost use Rattle.std.specs.Option.{option_copied};
 ghost use Rattle.cutoff_program.specs.Flows.{variables_of};
-ghost use Rattle.price_bound.specs.Asked.{IsAsked};
-ghost use Rattle.price_bound.specs.Numbers.{AreCosts, IsAdded, IsFound};
+ghost use Rattle.price_bound.specs.Asked.{IsBoxAsked};
+ghost use Rattle.price_bound.specs.Numbers.{AreCosts, IsAdded, ArePathsFound};
 
 use crate::measure::Measure;
 use crate::numbers::{cut_numbers, push_capped};
@@ -56,7 +56,7 @@ fn add_flow(
     flow: usize,
     costs: &mut Costs,
 ) -> Result<Option<Items<u64>>, OutOfMemory>
-    requires asked { IsAsked program.now.problem (option_copied cutoff) fixed.now }
+    requires asked { IsBoxAsked program.now.problem (option_copied cutoff) fixed.now }
     requires in_range { flow < length program.now.problem.flows }
     requires costs { AreCosts program.now.problem (option_copied cutoff) fixed.now flow costs.old }
     ensures { let at = option_copied cutoff.entry in
@@ -85,9 +85,9 @@ pub fn find(
     cutoff: Option<&Value>,
     fixed: &Fixed,
 ) -> Result<Found, OutOfMemory>
-    requires { IsAsked program.now.problem (option_copied cutoff) fixed.now }
+    requires { IsBoxAsked program.now.problem (option_copied cutoff) fixed.now }
     ensures { let at = option_copied cutoff.entry in
-        IfOk result (IsFound program.now.problem at fixed.now) }
+        IfOk result (ArePathsFound program.now.problem at fixed.now) }
 {
     let mut costs = no_costs(alloc, program)?;
     for flow in 0..program.problem().flows.len() {

@@ -7,7 +7,7 @@ ghost use Rattle.cutoff_program.specs.Flows.{variables_of, rate_over};
 ghost use Rattle.cutoff_program.specs.Easy.{rate_if_fixed, fixed_from};
 ghost use Rattle.merlin_program.specs.Kept.{variable_at};
 ghost use Rattle.price_candidates.specs.Tried.{capped};
-ghost use Rattle.price_bound.specs.Asked.{IsAsked};
+ghost use Rattle.price_bound.specs.Asked.{IsBoxAsked};
 ghost use Rattle.price_bound.specs.Numbers.{AreFloors, EachIsReached};
 
 use crate::measure::{Measure, term};
@@ -88,7 +88,7 @@ fn add_floor(
     flow: usize,
     numbers: &mut Items<u64>,
 ) -> Result<(), OutOfMemory>
-    requires asked { IsAsked program.now.problem (option_copied cutoff) fixed.now }
+    requires asked { IsBoxAsked program.now.problem (option_copied cutoff) fixed.now }
     requires in_range { flow < length program.now.problem.flows }
     requires reached { EachIsReached program.now.problem (option_copied cutoff) fixed.now }
     requires floors { let at = option_copied cutoff in
@@ -117,7 +117,7 @@ pub fn floors_on(
     fixed: &Fixed,
     link: usize,
 ) -> Result<Items<u64>, OutOfMemory>
-    requires asked { IsAsked program.now.problem (option_copied cutoff) fixed.now }
+    requires asked { IsBoxAsked program.now.problem (option_copied cutoff) fixed.now }
     requires reached { EachIsReached program.now.problem (option_copied cutoff) fixed.now }
     ensures { let at = option_copied cutoff.entry in
         let count = length program.now.problem.flows in

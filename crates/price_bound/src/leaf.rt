@@ -4,7 +4,7 @@ ghost use Rattle.std.specs.Prelude.{ℕ, ◌≡◌, ◌≤◌, ◌<◌, ◌+◌,
 ghost use Rattle.std.specs.List.{All};
 ghost use Rattle.cutoff_program.specs.declared.flow.Problem.{Problem};
 ghost use Rattle.price_candidates.specs.Leaves.{with_weight, flow_weights, leaf_from};
-ghost use Rattle.price_bound.specs.Priced.{pricing_of, rest, IsIn};
+ghost use Rattle.price_bound.specs.Priced.{pricing_of, rest, IsPricedIn};
 
 use merlin_model::OutOfMemory;
 use merlin_model::certificate::Weight;
@@ -39,7 +39,7 @@ fn put_priced(
     pricing: Priced,
 ) -> Result<(), OutOfMemory>
     requires few { rows + links < 2 ^ 63 }
-    requires is_in { IsIn links (pricing_of pricing) }
+    requires is_in { IsPricedIn links (pricing_of pricing) }
     ensures { OnOk result (weights.new ≡ weights.old ++ rest links (pricing_of pricing) rows) }
 {
     match pricing {
@@ -58,8 +58,9 @@ pub fn leaf(
 ) -> Result<Items<Weight>, OutOfMemory>
     requires low { All (λ m. m ≤ 2 ^ 60) at.now }
     requires few { length at.now + links < 2 ^ 63 }
-    requires is_in { IsIn links (pricing_of pricing) }
-    ensures { (problem : Problem) (numbers : ℕ → ℕ → ℕ) → at.now ≡ flow_weights numbers 0 problem.flows → links ≡ length problem.links →
+    requires is_in { IsPricedIn links (pricing_of pricing) }
+    ensures { (problem : Problem) (numbers : ℕ → ℕ → ℕ) →
+        at.now ≡ flow_weights numbers 0 problem.flows → links ≡ length problem.links →
         IfOk result (λ weights. weights ≡ leaf_from problem numbers (pricing_of pricing)) }
 {
     let mut weights = Items::new(alloc);

@@ -5,7 +5,7 @@ ghost use Rattle.std.specs.Option.{option_copied};
 ghost use Rattle.cutoff_program.specs.declared.flow.Flow.{Flow};
 ghost use Rattle.cutoff_program.specs.Flows.{variables_of, last_of};
 ghost use Rattle.cutoff_program.specs.Easy.{MayIn};
-ghost use Rattle.price_bound.specs.Asked.{IsAsked, measured};
+ghost use Rattle.price_bound.specs.Asked.{IsBoxAsked, measured};
 ghost use Rattle.merlin_program.specs.Kept.{variable_at};
 ghost use Rattle.price_bound.specs.Graphs.{IsPermittedGraph};
 ghost use Rattle.price_bound.specs.Steps.{step_of};
@@ -28,7 +28,7 @@ fn may_be_taken(
     fixed: &Fixed,
     variable: usize,
 ) -> bool
-    requires asked { IsAsked program.now.problem (option_copied cutoff) fixed.now }
+    requires asked { IsBoxAsked program.now.problem (option_copied cutoff) fixed.now }
     requires in_range { variable < length (variables_of program.now.problem) }
     ensures { let at = option_copied cutoff.entry in
         IsTrue result ↔ MayIn program.now.problem at fixed.now variable }
@@ -47,7 +47,7 @@ fn is_permitted(
     flow: usize,
     variable: usize,
 ) -> bool
-    requires asked { IsAsked program.now.problem (option_copied cutoff) fixed.now }
+    requires asked { IsBoxAsked program.now.problem (option_copied cutoff) fixed.now }
     requires in_range { variable < length (variables_of program.now.problem) }
     ensures { let at = option_copied cutoff.entry in
         let of = variable_at program.now.problem variable in
@@ -92,7 +92,7 @@ pub fn graph_of(
     flow: usize,
     measure: Measure,
 ) -> Result<FlowGraph, OutOfMemory>
-    requires asked { IsAsked program.now.problem (option_copied cutoff) fixed.now }
+    requires asked { IsBoxAsked program.now.problem (option_copied cutoff) fixed.now }
     requires in_range { flow < length program.now.problem.flows }
     ensures { (stated : Flow) → slice_get program.now.problem.flows flow ≡ Some stated →
         let problem = program.now.problem in

@@ -4,11 +4,8 @@
 ghost use Rattle.std.specs.Prelude.{ℕ, ◌≡◌, ◌==◌, ◌<◌, length, None, false, IfOk, IsTrue};
 ghost use Rattle.std.specs.Option.{option_copied};
 ghost use Rattle.merlin_model.specs.Trees.{IsOpen, HasOpen};
-ghost use Rattle.integer_program.specs.Verdicts.{IsLawful};
 ghost use Rattle.cutoff_program.specs.Flows.{variables_of, program_at};
-ghost use Rattle.cutoff_program.specs.Easy.{IsEasy};
-ghost use Rattle.cutoff_program.specs.Trails.{IsNeat};
-ghost use Rattle.price_bound.specs.Asked.{IsAsked};
+ghost use Rattle.price_bound.specs.Asked.{IsBoxAsked, IsLawfulAt};
 ghost use Rattle.price_bound.specs.Numbers.{AreCosts, ArePricesTried, DoNotRefute, IsCutAt};
 
 use crate::costs::{Costs, Found, find};
@@ -24,7 +21,7 @@ use std::alloc::Global;
 
 // Whether a box has an open variable.
 fn has_open(program: &MerlinProgram, cutoff: Option<&Value>, fixed: &Fixed) -> bool
-    requires { IsAsked program.now.problem (option_copied cutoff) fixed.now }
+    requires { IsBoxAsked program.now.problem (option_copied cutoff) fixed.now }
     ensures some { let stated = program_at program.now.problem (option_copied cutoff.entry) in
         IsTrue result → HasOpen stated fixed.now }
     ensures none { let stated = program_at program.now.problem (option_copied cutoff.entry) in
@@ -47,13 +44,13 @@ fn by_point(
     workspace: &mut Workspace,
     point: Items<bool>,
 ) -> Result<Verdict, OutOfMemory>
-    requires asked { IsAsked program.now.problem (option_copied cutoff) fixed.now }
+    requires asked { IsBoxAsked program.now.problem (option_copied cutoff) fixed.now }
     requires room { workspace.old ≡ length (variables_of program.now.problem) }
     requires tried { ArePricesTried program.now.problem (option_copied cutoff) fixed.now point }
     ensures same { workspace.new ≡ workspace.old }
     ensures lawful { let problem = program.now.problem in
         let at = option_copied cutoff.entry in
-        IfOk result (IsLawful (program_at problem at) (IsEasy problem at) (IsNeat problem) fixed.now) }
+        IfOk result (IsLawfulAt problem at fixed.now) }
 {
     price_candidates::candidates::easy_boxes_are_decided();
     price_candidates::candidates::closed_boxes_are_decided();
@@ -79,15 +76,16 @@ fn by_links(
     workspace: &mut Workspace,
     costs: Costs,
 ) -> Result<Verdict, OutOfMemory>
-    requires asked { IsAsked program.now.problem (option_copied cutoff) fixed.now }
+    requires asked { IsBoxAsked program.now.problem (option_copied cutoff) fixed.now }
     requires room { workspace.old ≡ length (variables_of program.now.problem) }
     requires costs { let count = length program.now.problem.flows in
         AreCosts program.now.problem (option_copied cutoff) fixed.now count costs }
-    requires lengths { DoNotRefute program.now.problem (option_copied cutoff) fixed.now costs.numbers }
+    requires lengths { let at = option_copied cutoff in
+        DoNotRefute program.now.problem at fixed.now costs.numbers }
     ensures same { workspace.new ≡ workspace.old }
     ensures lawful { let problem = program.now.problem in
         let at = option_copied cutoff.entry in
-        IfOk result (IsLawful (program_at problem at) (IsEasy problem at) (IsNeat problem) fixed.now) }
+        IfOk result (IsLawfulAt problem at fixed.now) }
 {
     match try_links(alloc, program, cutoff, fixed, workspace)? {
         Some(weights) => Ok(Verdict::Closed(weights)),
@@ -104,14 +102,14 @@ fn by_costs(
     workspace: &mut Workspace,
     costs: Costs,
 ) -> Result<Verdict, OutOfMemory>
-    requires asked { IsAsked program.now.problem (option_copied cutoff) fixed.now }
+    requires asked { IsBoxAsked program.now.problem (option_copied cutoff) fixed.now }
     requires room { workspace.old ≡ length (variables_of program.now.problem) }
     requires costs { let count = length program.now.problem.flows in
         AreCosts program.now.problem (option_copied cutoff) fixed.now count costs }
     ensures same { workspace.new ≡ workspace.old }
     ensures lawful { let problem = program.now.problem in
         let at = option_copied cutoff.entry in
-        IfOk result (IsLawful (program_at problem at) (IsEasy problem at) (IsNeat problem) fixed.now) }
+        IfOk result (IsLawfulAt problem at fixed.now) }
 {
     match try_lengths(
         alloc,
@@ -134,11 +132,11 @@ fn closed_by_cut(
     fixed: &Fixed,
     numbers: Items<u64>,
 ) -> Result<Verdict, OutOfMemory>
-    requires asked { IsAsked program.now.problem (option_copied cutoff) fixed.now }
+    requires asked { IsBoxAsked program.now.problem (option_copied cutoff) fixed.now }
     requires cut { IsCutAt program.now.problem (option_copied cutoff) fixed.now numbers }
     ensures { let problem = program.now.problem in
         let at = option_copied cutoff.entry in
-        IfOk result (IsLawful (program_at problem at) (IsEasy problem at) (IsNeat problem) fixed.now) }
+        IfOk result (IsLawfulAt problem at fixed.now) }
 {
     price_candidates::candidates::unreached_flows_refute();
     let links = program.problem().links.len();
@@ -154,12 +152,12 @@ fn look_at(
     fixed: &Fixed,
     workspace: &mut Workspace,
 ) -> Result<Verdict, OutOfMemory>
-    requires asked { IsAsked program.now.problem (option_copied cutoff) fixed.now }
+    requires asked { IsBoxAsked program.now.problem (option_copied cutoff) fixed.now }
     requires room { workspace.old ≡ length (variables_of program.now.problem) }
     ensures same { workspace.new ≡ workspace.old }
     ensures lawful { let problem = program.now.problem in
         let at = option_copied cutoff.entry in
-        IfOk result (IsLawful (program_at problem at) (IsEasy problem at) (IsNeat problem) fixed.now) }
+        IfOk result (IsLawfulAt problem at fixed.now) }
 {
     match find(alloc, program, cutoff, fixed)? {
         Found::Cut(numbers) => closed_by_cut(alloc, program, cutoff, fixed, numbers),

@@ -5,9 +5,9 @@ ghost use Rattle.std.specs.List.{AllByRecursion};
 ghost use Rattle.std.specs.Option.{option_copied};
 ghost use Rattle.cutoff_program.specs.declared.flow.Flow.{Flow};
 ghost use Rattle.graph_search.specs.Graphs.{GoesBack};
-ghost use Rattle.price_bound.specs.Asked.{IsAsked, measured};
+ghost use Rattle.price_bound.specs.Asked.{IsBoxAsked, measured};
 ghost use Rattle.price_bound.specs.Steps.{edges_in};
-ghost use Rattle.price_bound.specs.Spreads.{IsSpread, IsMarked, variables_along};
+ghost use Rattle.price_bound.specs.Spreads.{IsFlowSpread, IsMarked, variables_along};
 
 use crate::flow_graph::FlowGraph;
 use crate::measure::Measure;
@@ -36,11 +36,11 @@ pub fn spread_of(
     flow: usize,
     measure: Measure,
 ) -> Result<Spread, OutOfMemory>
-    requires asked { IsAsked program.now.problem (option_copied cutoff) fixed.now }
+    requires asked { IsBoxAsked program.now.problem (option_copied cutoff) fixed.now }
     requires in_range { flow < length program.now.problem.flows }
     ensures { (stated : Flow) → slice_get program.now.problem.flows flow ≡ Some stated →
         let problem = program.now.problem in
-        let is = IsSpread problem (option_copied cutoff.entry) fixed.now flow in
+        let is = IsFlowSpread problem (option_copied cutoff.entry) fixed.now flow in
         IfOk result (is (measured problem measure) stated) }
 {
     let graph = graph_of(alloc, program, cutoff, fixed, flow, measure)?;

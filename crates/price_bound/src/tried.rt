@@ -5,9 +5,9 @@ ghost use Rattle.std.specs.Option.{option_copied};
 ghost use Rattle.cutoff_program.specs.Flows.{variables_of, program_at};
 ghost use Rattle.price_candidates.specs.Leaves.{AreSmallNumbers, flow_weights, leaf_from};
 ghost use Rattle.price_candidates.specs.Tried.{leaf_by_costs, one_weight};
-ghost use Rattle.price_bound.specs.Asked.{IsAsked};
+ghost use Rattle.price_bound.specs.Asked.{IsBoxAsked};
 ghost use Rattle.price_bound.specs.Numbers.{AreNumbers, EachIsReached, IsLeafTried, IsLinkTried, AreLinksTried, IsRowTried, AreRowsTried};
-ghost use Rattle.price_bound.specs.Priced.{pricing_of, IsIn};
+ghost use Rattle.price_bound.specs.Priced.{pricing_of, IsPricedIn};
 
 use crate::floors::floors_on;
 use crate::leaf::{Priced, leaf};
@@ -31,10 +31,10 @@ pub fn try_leaf(
     numbers: &[u64],
     pricing: Priced,
 ) -> Result<Option<Items<Weight>>, OutOfMemory>
-    requires asked { IsAsked program.now.problem (option_copied cutoff) fixed.now }
+    requires asked { IsBoxAsked program.now.problem (option_copied cutoff) fixed.now }
     requires room { workspace.old ≡ length (variables_of program.now.problem) }
     requires numbers { AreNumbers program.now.problem numbers.now }
-    requires priced { IsIn (length program.now.problem.links) (pricing_of pricing) }
+    requires priced { IsPricedIn (length program.now.problem.links) (pricing_of pricing) }
     ensures same { workspace.new ≡ workspace.old }
     ensures tried { let problem = program.now.problem in
         let stated = program_at problem (option_copied cutoff.entry) in
@@ -59,7 +59,7 @@ pub fn try_lengths(
     workspace: &mut Workspace,
     costs: &[u64],
 ) -> Result<Option<Items<Weight>>, OutOfMemory>
-    requires asked { IsAsked program.now.problem (option_copied cutoff) fixed.now }
+    requires asked { IsBoxAsked program.now.problem (option_copied cutoff) fixed.now }
     requires room { workspace.old ≡ length (variables_of program.now.problem) }
     requires costs { AreNumbers program.now.problem costs.now }
     ensures same { workspace.new ≡ workspace.old }
@@ -105,7 +105,7 @@ fn try_link(
     workspace: &mut Workspace,
     link: usize,
 ) -> Result<Option<Items<Weight>>, OutOfMemory>
-    requires asked { IsAsked program.now.problem (option_copied cutoff) fixed.now }
+    requires asked { IsBoxAsked program.now.problem (option_copied cutoff) fixed.now }
     requires room { workspace.old ≡ length (variables_of program.now.problem) }
     requires reached { EachIsReached program.now.problem (option_copied cutoff) fixed.now }
     requires in_range { link < length program.now.problem.links }
@@ -133,7 +133,7 @@ pub fn try_links(
     fixed: &Fixed,
     workspace: &mut Workspace,
 ) -> Result<Option<Items<Weight>>, OutOfMemory>
-    requires asked { IsAsked program.now.problem (option_copied cutoff) fixed.now }
+    requires asked { IsBoxAsked program.now.problem (option_copied cutoff) fixed.now }
     requires room { workspace.old ≡ length (variables_of program.now.problem) }
     requires reached { EachIsReached program.now.problem (option_copied cutoff) fixed.now }
     ensures same { workspace.new ≡ workspace.old }
@@ -167,7 +167,7 @@ fn try_weight(
     row: usize,
     weight: i64,
 ) -> Result<Option<Items<Weight>>, OutOfMemory>
-    requires asked { IsAsked program.now.problem (option_copied cutoff) fixed.now }
+    requires asked { IsBoxAsked program.now.problem (option_copied cutoff) fixed.now }
     requires room { workspace.old ≡ length (variables_of program.now.problem) }
     ensures same { workspace.new ≡ workspace.old }
     ensures tried { let stated = program_at program.now.problem (option_copied cutoff.entry) in
@@ -190,7 +190,7 @@ fn try_row(
     workspace: &mut Workspace,
     row: usize,
 ) -> Result<Option<Items<Weight>>, OutOfMemory>
-    requires asked { IsAsked program.now.problem (option_copied cutoff) fixed.now }
+    requires asked { IsBoxAsked program.now.problem (option_copied cutoff) fixed.now }
     requires room { workspace.old ≡ length (variables_of program.now.problem) }
     ensures same { workspace.new ≡ workspace.old }
     ensures tried { let stated = program_at program.now.problem (option_copied cutoff.entry) in
@@ -210,7 +210,7 @@ pub fn try_rows(
     fixed: &Fixed,
     workspace: &mut Workspace,
 ) -> Result<Option<Items<Weight>>, OutOfMemory>
-    requires asked { IsAsked program.now.problem (option_copied cutoff) fixed.now }
+    requires asked { IsBoxAsked program.now.problem (option_copied cutoff) fixed.now }
     requires room { workspace.old ≡ length (variables_of program.now.problem) }
     ensures same { workspace.new ≡ workspace.old }
     ensures tried { let stated = program_at program.now.problem (option_copied cutoff.entry) in

@@ -1,3 +1,10 @@
 pub mod Spelling
 pub mod Standing
 pub mod Walking
+pub mod Lists
+pub mod Following
+pub mod Numbers
+pub mod Placing
+pub mod Noting
+pub mod Returning
+pub mod Keeping

@@ -2,9 +2,17 @@
 //! walks of a path lead.
 #![tactic(auto)]
 
+mod backwards;
+mod followers;
 pub mod laws;
+mod leading;
+mod rows;
+mod search;
 mod span;
+mod vertex_set;
 mod walks;
 
+pub use followers::Followers;
 pub use merlin_model::OutOfMemory;
+pub use rows::followers_in;
 pub use span::{Product, Span2, Vertex};

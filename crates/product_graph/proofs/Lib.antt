@@ -8,3 +8,8 @@ pub mod Placing
 pub mod Noting
 pub mod Returning
 pub mod Keeping
+pub mod Starting
+pub mod Joins
+pub mod Bridging
+pub mod Listing
+pub mod Trimming

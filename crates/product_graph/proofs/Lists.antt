@@ -207,3 +207,13 @@ get-snoc (y ∷ xs) x (suc k) a e = by (get-snoc xs x k a e)
     by : (slice_get xs k ≡ Some a) ⊎ ((k ≡ length xs) × (x ≡ a)) → (slice_get xs k ≡ Some a) ⊎ ((suc k ≡ length (y ∷ xs)) × (x ≡ a))
     by (inl h) = inl h
     by (inr h) = let at = h.0 in inr (omega (arith, at), h.1)
+
+-- a place in two lists is one in the first, or in the second
+pub get-parts : {X : Type 0} (xs ys : List X) (k : ℕ) (a : X) → slice_get (xs ++ ys) k ≡ Some a → (slice_get xs k ≡ Some a) ⊎ ((i : ℕ) × (k ≡ length xs + i) × (slice_get ys i ≡ Some a))
+get-parts [] ys k a e = inr (k, omega arith, e)
+get-parts (x ∷ xs) ys zero a e = inl e
+get-parts (x ∷ xs) ys (suc k) a e = by (get-parts xs ys k a e)
+  where
+    by : (slice_get xs k ≡ Some a) ⊎ ((i : ℕ) × (k ≡ length xs + i) × (slice_get ys i ≡ Some a)) → (slice_get (x ∷ xs) (suc k) ≡ Some a) ⊎ ((i : ℕ) × (suc k ≡ length (x ∷ xs) + i) × (slice_get ys i ≡ Some a))
+    by (inl h) = inl h
+    by (inr h) = let at = h.1 in inr (h.0, omega (arith, at), h.2)

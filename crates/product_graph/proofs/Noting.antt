@@ -12,7 +12,7 @@ passes-on : (g : Ground) (p : NumberedVertex) (ks : List ℕ) (q : NumberedVerte
 passes-on g p [] q k h goes = (subst (λ x. GoesOnBy g x k) (sym h) goes, ap (λ x. next_of g x k) h)
 passes-on g p (j ∷ ks) q k h goes = (h.0, passes-on g (next_of g p j) ks q k h.1 goes)
 
-reach-on : (g : Ground) (starts : List NumberedVertex) (q : NumberedVertex) (k : ℕ) → IsReachable g starts q → GoesOnBy g q k → IsReachable g starts (next_of g q k)
+pub reach-on : (g : Ground) (starts : List NumberedVertex) (q : NumberedVertex) (k : ℕ) → IsReachable g starts q → GoesOnBy g q k → IsReachable g starts (next_of g q k)
 reach-on g starts q k h goes = (h.0, h.1, (h.2.0 ++ k ∷ [], passes-on g h.0 h.2.0 q k h.2.1 goes))
 
 pub begun : (g : Ground) (starts : List NumberedVertex) (found : Found) → AllByRecursion (IsOnGround g) starts → ((p : NumberedVertex) → Contains found.vertices p ↔ Contains starts p) → found.edges ≡ [] → IsFinding g starts found 0 []

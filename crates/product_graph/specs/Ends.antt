@@ -1,5 +1,5 @@
 -- The hosts at which walks start and end, by numbers.
-use Rattle.std.specs.Prelude.{ℕ, ◌≡◌, ◌≤◌, ◌<◌, ◌↔◌, List, length, slice_get, Contains, Some, Option, None}
+use Rattle.std.specs.Prelude.{ℕ, ◌≡◌, ◌≢◌, ◌≤◌, ◌<◌, ◌↔◌, List, length, slice_get, Contains, Some, Option, None}
 use Rattle.std.specs.List.{AllByRecursion}
 use Rattle.merlin_model.specs.declared.policy.Symbol.{Symbol}
 use Rattle.merlin_model.specs.Networks.{Network, IsHost, Pairwise}
@@ -7,10 +7,11 @@ use Rattle.merlin_model.specs.Words.{at}
 use Rattle.path_automaton.specs.Automata.{AutomatonTables, step}
 use Rattle.rules_model.specs.Products.{IsLast}
 use Rattle.product_graph.specs.declared.span.Span2.{Span2}
+use Rattle.product_graph.specs.declared.span.Span2.TheVariants.{Pair, All}
 use Rattle.product_graph.specs.declared.vertex_set.NumberedVertex.{NumberedVertex}
 use Rattle.product_graph.specs.declared.leading.Destination.{Destination}
 use Rattle.product_graph.specs.Numbered.{vertex_by, IsNumberedBefore}
-use Rattle.product_graph.specs.Products.{automaton_of, IsSource}
+use Rattle.product_graph.specs.Products.{automaton_of, IsSource, dest_of}
 
 abbrev pub IsDestination : List Symbol → Destination → Type 0
 IsDestination symbols d = slice_get symbols d.symbol ≡ Some (at d.host)
@@ -49,9 +50,14 @@ IsInsideBelow net symbols states bound p =
 abbrev pub HasSymbolAndBelow : ℕ → ℕ → NumberedVertex → Type 0
 HasSymbolAndBelow k bound p = (p.symbol ≡ k) × (p.state < bound)
 
--- the least state in which the host is entered from one of these vertices, if it is entered
-abbrev pub IsLeastEntered : Network → List Symbol → AutomatonTables → Destination → List NumberedVertex → Option ℕ → Type 0
-IsLeastEntered net symbols t d vertices None = (p : NumberedVertex) → Contains vertices p → ¬ IsLastBy net symbols t d.host p
-IsLeastEntered net symbols t d vertices (Some q) =
-    ((p : NumberedVertex) × Contains vertices p × IsLastBy net symbols t d.host p × (q ≡ step t p.state d.symbol))
-    × ((p : NumberedVertex) → Contains vertices p → IsLastBy net symbols t d.host p → q ≤ step t p.state d.symbol)
+-- the span names the location as a start
+abbrev pub IsNamed : Span2 → ℕ → Type 0
+IsNamed (Pair s d) h = h ≡ s
+IsNamed (All d) h = h ≢ d
+
+-- walks may start with the symbol
+abbrev pub IsStartSymbol : Network → Span2 → Symbol → Type 0
+IsStartSymbol net span x = (x.fun ≡ None) × IsSource net span x.loc
+
+abbrev pub IsDestinationOf : List Symbol → Span2 → Destination → Type 0
+IsDestinationOf symbols span d = (d.host ≡ dest_of span) × IsDestination symbols d

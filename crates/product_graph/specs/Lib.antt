@@ -5,4 +5,6 @@ pub mod Reversed
 pub mod Finding
 pub mod Products
 pub mod Ends
+pub mod Joining
+pub mod Kept
 pub mod Walks

@@ -1,26 +1,25 @@
 -- Vertices by numbers and the vertices that they stand for.
-use Rattle.std.proofs.Common.{◌≡◌, ◌≢◌, ◌<◌, ◌≤◌, ◌⊎◌, ◌↔◌, inl, inr, ◌+◌, ◌==◌, ℕ, suc, zero, Bool, true, false, List, [], ◌∷◌, ◌++◌, length, map, get_or, slice_get, Contains, Some, None, refl, sym, ◌∙◌, ap, subst, arith}
-use Rattle.std.specs.List.{AllByRecursion}
+use Rattle.std.proofs.Common.{◌≡◌, ◌≢◌, ◌<◌, ◌≤◌, ◌⊎◌, inl, inr, ◌==◌, ℕ, suc, zero, Bool, true, false, List, [], ◌∷◌, length, map, get_or, slice_get, Contains, Some, refl, sym, ◌∙◌, ap, subst, arith}
 use Rattle.std.proofs.lemmas.Bool.{eqb-true, eq-eqb}
 use Rattle.merlin_model.specs.declared.policy.Symbol.{Symbol}
-use Rattle.merlin_model.specs.Networks.{Network, IsHost, Pairwise, AreDifferent}
+use Rattle.merlin_model.specs.Networks.{Network, IsHost}
 use Rattle.merlin_model.specs.Words.{at, IsSymbol, MayFollow}
-use Rattle.merlin_model.proofs.Members.{in_from, in_to}
+use Rattle.merlin_model.proofs.Members.{in_from}
 use Rattle.path_automaton.specs.Automata.{AutomatonTables, step, number_in}
 use Rattle.path_automaton.proofs.Listed.{number-at}
-use Rattle.rules_model.specs.Products.{SymbolAutomaton, Vertex, loc_of, start_of, function_place, IsEdge, IsLast, LeadsTo, LeadsToEnd, IsOnWayBetween}
+use Rattle.rules_model.specs.Products.{SymbolAutomaton, Vertex, start_of, function_place, IsEdge, LeadsTo, LeadsToEnd}
 use Rattle.rules_model.proofs.Trees.{host_symbol}
 use Rattle.product_graph.specs.declared.followers.Followers.{Followers}
 use Rattle.product_graph.specs.declared.vertex_set.NumberedVertex.{NumberedVertex}
 use Rattle.product_graph.specs.declared.span.Span2.{Span2}
-use Rattle.product_graph.specs.Products.{automaton_of, dest_of, IsSource, StandsIn, IsStart, IsBefore}
+use Rattle.product_graph.specs.Products.{automaton_of, dest_of, IsSource, StandsIn, IsBefore}
 use Rattle.product_graph.specs.Inside.{AreRising}
-use Rattle.product_graph.specs.Followers.{IsSymbolBefore, AreOrderedSymbols, follower_numbers, MayGoOn, IsFollowerRow, AreFollowersOf}
-use Rattle.product_graph.specs.Numbered.{Ground, ground_of, next_of, GoesOnBy, PassesTo, IsReachable, PassesOut, LeadsOut, IsNumberedBefore, vertex_by}
+use Rattle.product_graph.specs.Followers.{IsSymbolBefore, AreOrderedSymbols, follower_numbers, IsFollowerRow, AreFollowersOf}
+use Rattle.product_graph.specs.Numbered.{Ground, ground_of, next_of, GoesOnBy, PassesTo, PassesOut, LeadsOut, IsNumberedBefore, vertex_by}
 use Rattle.product_graph.specs.Ends.{IsLastBy, IsStartBy, AreStartsBelow, IsSymbolInside}
 use Rattle.product_graph.specs.Kept.{LiesBetween}
-use Rattle.product_graph.proofs.Lists.{some-same, false-true, lt-or-ge, get-at, at-get, get-below, get-contains, contains-get, map-length, pairwise-get, contains-none}
-use Rattle.product_graph.proofs.Following.{symbols-among, symbol-within}
+use Rattle.product_graph.proofs.Lists.{false-true, lt-or-ge, get-at, at-get, get-below, get-contains, map-length, pairwise-get, contains-none}
+use Rattle.product_graph.proofs.Following.{symbol-within}
 use Rattle.product_graph.proofs.Numbers.{one-symbol, number-here}
 use Rattle.product_graph.proofs.Starting.{source-host}
 
@@ -185,8 +184,7 @@ module _ (net : Network) (symbols : List Symbol) (are : AreOrderedSymbols net sy
     pub stands-lies : (v : Vertex) → StandsIn net a span v → (q : NumberedVertex) × (v ≡ V q) × (q.symbol < length symbols) × Lies q
     stands-lies v h =
         let start = vertex-start span h.0 h.1 in
-        let way = leads-passes start.0 start.2 h.2.before v (subst (λ w. LeadsTo net a w h.2.before v) (sym start.3) h.2.reached) in
-        (
+        let way = leads-passes start.0 start.2 h.2.before v (subst (λ w. LeadsTo net a w h.2.before v) (sym start.3) h.2.reached) in (
           way.0,
           way.1,
           way.2,
@@ -197,8 +195,7 @@ module _ (net : Network) (symbols : List Symbol) (are : AreOrderedSymbols net sy
     lies-stands q lt h =
         let start = (s.each h.0.0).0 h.0.1 in
         let way = passes-leads h.0.0 start.0 h.0.2.0 q h.0.2.1 in
-        let out = out-leads (dest_of span) q lt h.1.0 h.1.1 in
-        (
+        let out = out-leads (dest_of span) q lt h.1.0 h.1.1 in (
           start.1.0,
           start.1.1,
           record {

@@ -1,15 +1,15 @@
 -- Rows of followers, symbol by symbol.
-use Rattle.std.proofs.Common.{◌≡◌, ◌<◌, ◌≤◌, ◌⊎◌, inl, inr, ◌+◌, ℕ, suc, zero, List, [], ◌∷◌, ◌++◌, length, map, get_or, slice_get, Contains, Option, None, Some, MatchOption, IsSome, option_map, refl, sym, ◌∙◌, ap, subst, arith}
+use Rattle.std.proofs.Common.{◌≡◌, ◌<◌, ◌⊎◌, inl, inr, ◌+◌, ℕ, suc, List, [], ◌∷◌, ◌++◌, length, map, get_or, slice_get, Contains, Option, None, Some, MatchOption, option_map, refl, sym, ◌∙◌, ap, subst, arith}
 use Rattle.std.specs.Prelude.{⊤}
 use Rattle.std.specs.List.{AllByRecursion}
 use Rattle.merlin_model.specs.declared.policy.Symbol.{Symbol}
 use Rattle.merlin_model.specs.declared.network.Location.{Location}
-use Rattle.merlin_model.specs.Networks.{Network, address_at, places_of, IsHost}
+use Rattle.merlin_model.specs.Networks.{Network, places_of, IsHost}
 use Rattle.merlin_model.specs.Words.{at, IsSymbol, MayFollow}
-use Rattle.merlin_model.proofs.Members.{In, in_from, in_to, in_append, in_append-left, in_append-right}
+use Rattle.merlin_model.proofs.Members.{in_to}
 use Rattle.path_automaton.proofs.Building.{get-below, get-in}
 use Rattle.product_graph.specs.Inside.{HaveRows, numbers_after}
-use Rattle.product_graph.specs.Followers.{AreOrderedSymbols, AreSymbolsAmong, MayGoOn, IsFollowerRow, AreFollowerRows, AreFollowersOf}
+use Rattle.product_graph.specs.Followers.{AreOrderedSymbols, AreSymbolsAmong, MayGoOn, IsFollowerRow, AreFollowerRows}
 use Rattle.product_graph.proofs.Lists.{some-same, below_or_at, all-map, all-snoc, pairwise-snoc, all-at, all-from, map-length, each-more, contains-none, contains-snoc, contains-left, contains-last}
 
 module _ (net : Network) (symbols : List Symbol) (loc : ℕ) where

@@ -1,14 +1,13 @@
 -- The edges of a product, vertex by vertex.
-use Rattle.std.proofs.Common.{◌≡◌, ◌≢◌, ◌<◌, ◌≤◌, ◌⊎◌, ◌↔◌, inl, inr, ◌+◌, ℕ, suc, Bool, true, false, nat_le, List, [], ◌∷◌, ◌++◌, length, get_or, slice_get, Contains, Option, Some, None, append_assoc, cond, refl, sym, ◌∙◌, ap, subst, arith}
-use Rattle.std.specs.List.{AllByRecursion}
-use Rattle.merlin_model.specs.Networks.{Pairwise, AreDifferent}
+use Rattle.std.proofs.Common.{◌≡◌, ◌≢◌, ◌<◌, ◌≤◌, ◌⊎◌, inl, inr, ◌+◌, ℕ, Bool, true, false, nat_le, List, [], ◌∷◌, ◌++◌, length, get_or, slice_get, Contains, Option, Some, None, append_assoc, cond, refl, sym, ◌∙◌, ap, subst, arith}
+use Rattle.merlin_model.specs.Networks.{AreDifferent}
 use Rattle.path_automaton.specs.Automata.{AutomatonTables, step}
 use Rattle.product_graph.specs.declared.vertex_set.NumberedVertex.{NumberedVertex}
 use Rattle.product_graph.specs.Followers.{follower_numbers}
 use Rattle.product_graph.specs.Numbered.{Ground, next_of, GoesOnBy}
 use Rattle.product_graph.specs.Products.{IsEdgeBefore}
 use Rattle.product_graph.specs.Joining.{IsJoinedNext, KeepsOrder, IsEdgeBy, AreEdgesBy, IsEdgeOut, AreEdgesOut, AreEdgesBelow, lowered_by, IsLeastBelow}
-use Rattle.product_graph.proofs.Lists.{some-same, false-true, below_or_at, lt-or-ge, all-contained, pairwise-get, pairwise-snoc, pairwise-append, get-below, get-contains, contains-get, contains-none, contains-left, contains-right, contains-either, contains-last, contains-snoc}
+use Rattle.product_graph.proofs.Lists.{some-same, false-true, below_or_at, lt-or-ge, all-contained, pairwise-get, pairwise-snoc, pairwise-append, get-below, get-contains, contains-none, contains-left, contains-right, contains-either, contains-last, contains-snoc}
 
 -- each element of a list of different ones stands at one place
 pub one-place : {X : Type 0} (xs : List X) → AreDifferent xs → (i j : ℕ) (x : X) → slice_get xs i ≡ Some x → slice_get xs j ≡ Some x → i ≡ j

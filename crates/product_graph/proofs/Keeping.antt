@@ -1,8 +1,7 @@
 -- The vertices that are kept, in order.
-use Rattle.std.proofs.Common.{◌≡◌, ◌<◌, ◌≤◌, ◌⊎◌, ◌↔◌, inl, inr, ◌+◌, ℕ, suc, List, [], ◌∷◌, ◌++◌, length, slice_get, Contains, Some, refl, sym, ◌∙◌, ap, subst, arith}
-use Rattle.std.specs.List.{AllByRecursion}
+use Rattle.std.proofs.Common.{◌≡◌, ◌<◌, ◌≤◌, ◌⊎◌, ◌↔◌, inl, inr, ◌+◌, ℕ, List, [], ◌∷◌, ◌++◌, length, slice_get, Contains, Some, refl, sym, ◌∙◌, ap, subst, arith}
 use Rattle.merlin_model.specs.declared.policy.Symbol.{Symbol}
-use Rattle.merlin_model.specs.Networks.{Network, IsHost, Pairwise}
+use Rattle.merlin_model.specs.Networks.{Network}
 use Rattle.product_graph.specs.declared.vertex_set.NumberedVertex.{NumberedVertex}
 use Rattle.product_graph.specs.declared.leading.Leading.{Leading}
 use Rattle.product_graph.specs.Numbered.{IsNumberedBefore}

@@ -1,5 +1,5 @@
 -- The vertices of a product in a list.
-use Rattle.std.proofs.Common.{◌≡◌, ◌≢◌, ◌<◌, ◌≤◌, ◌⊎◌, ◌↔◌, inl, inr, ◌+◌, ℕ, suc, zero, Bool, true, false, List, [], ◌∷◌, ◌++◌, length, map, take, get_or, slice_get, Contains, Some, None, append_assoc, refl, sym, ◌∙◌, ap, subst, arith}
+use Rattle.std.proofs.Common.{◌≡◌, ◌≢◌, ◌<◌, ◌≤◌, ◌⊎◌, ◌↔◌, inl, inr, ◌+◌, ℕ, suc, zero, Bool, true, false, List, [], ◌∷◌, ◌++◌, length, take, get_or, slice_get, Contains, Some, append_assoc, refl, sym, ◌∙◌, ap, subst, arith}
 use Rattle.std.specs.List.{AllByRecursion}
 use Rattle.merlin_model.specs.declared.policy.Symbol.{Symbol}
 use Rattle.merlin_model.specs.Networks.{Network, IsHost, Pairwise, AreDifferent}
@@ -8,18 +8,16 @@ use Rattle.merlin_model.proofs.Members.{all_left}
 use Rattle.path_automaton.specs.Automata.{AutomatonTables}
 use Rattle.product_graph.specs.declared.followers.Followers.{Followers}
 use Rattle.product_graph.specs.declared.vertex_set.NumberedVertex.{NumberedVertex}
-use Rattle.product_graph.specs.declared.search.Found.{Found}
 use Rattle.product_graph.specs.declared.leading.Leading.{Leading}
-use Rattle.product_graph.specs.declared.leading.Destination.{Destination}
 use Rattle.product_graph.specs.declared.kept.Kept.{Kept}
 use Rattle.product_graph.specs.declared.span.Span2.{Span2}
-use Rattle.product_graph.specs.Followers.{AreOrderedSymbols, AreFollowersOf, follower_numbers}
-use Rattle.product_graph.specs.Numbered.{IsPut, Ground, ground_of, IsOnGround, next_of, GoesOnBy, IsReachable, LeadsOut, IsNumberedBefore}
-use Rattle.product_graph.specs.Finding.{IsAllFound, AreLeading, AreKeptStarts, AreKeptAmong, IsSeenLeading}
+use Rattle.product_graph.specs.Followers.{AreOrderedSymbols, AreFollowersOf}
+use Rattle.product_graph.specs.Numbered.{IsPut, ground_of, IsOnGround, next_of, IsNumberedBefore}
+use Rattle.product_graph.specs.Finding.{AreLeading, AreKeptStarts, AreKeptAmong, IsSeenLeading}
 use Rattle.product_graph.specs.Ends.{IsLastBy, HasNumbersOf, IsStartBy, AreStartsBelow, IsSymbolInside, IsInsideBelow}
 use Rattle.product_graph.specs.Joining.{AreLasts, KeepsOrder, HaveRisingRows}
 use Rattle.product_graph.specs.Kept.{AreKeptOf, LiesBetween, AreBetween, AreNumbersBelow}
-use Rattle.product_graph.proofs.Lists.{some-same, none-some, false-true, below_or_at, lt-or-ge, all-snoc, all-map, all-contained, contained-all, pairwise-get, pairwise-snoc, pairwise-map, pairwise-append, get-below, get-contains, contains-get, get-snoc, contains-none, contains-one, get-parts, contains-left, contains-right, contains-either, contains-last, contains-snoc, length-more, get-before, get-behind}
+use Rattle.product_graph.proofs.Lists.{some-same, none-some, below_or_at, lt-or-ge, all-map, all-contained, contained-all, pairwise-get, pairwise-snoc, pairwise-map, pairwise-append, get-below, get-contains, contains-get, get-snoc, contains-none, contains-one, get-parts, contains-left, contains-right, contains-either, contains-last, contains-snoc, length-more, get-before, get-behind}
 use Rattle.product_graph.proofs.Returning.{seen-leading}
 use Rattle.product_graph.proofs.Starting.{source-host}
 use Rattle.product_graph.proofs.Bridging.{long, rising, goes-inside}

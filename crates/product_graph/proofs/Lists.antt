@@ -1,5 +1,5 @@
 -- Lists by their places.
-use Rattle.std.proofs.Common.{◌≡◌, ◌<◌, ◌≤◌, ◌⊎◌, inl, inr, ◌+◌, ℕ, suc, zero, Bool, true, false, nat_lt, List, [], ◌∷◌, ◌++◌, length, map, take, get_or, slice_get, Contains, Some, None, add-one, refl, sym, ◌∙◌, ap, subst, arith}
+use Rattle.std.proofs.Common.{◌≡◌, ◌<◌, ◌≤◌, ◌⊎◌, inl, inr, ◌+◌, ℕ, suc, zero, Bool, true, false, nat_lt, List, [], ◌∷◌, ◌++◌, length, map, take, get_or, slice_get, Contains, Some, None, Result, Ok, Err, IfOk, add-one, refl, sym, ◌∙◌, ap, subst, arith}
 use Rattle.std.specs.List.{AllByRecursion}
 use Rattle.std.proofs.Math.Seq.{take-suc}
 use Rattle.merlin_model.specs.Networks.{Pairwise}
@@ -217,3 +217,7 @@ get-parts (x ∷ xs) ys (suc k) a e = by (get-parts xs ys k a e)
     by : (slice_get xs k ≡ Some a) ⊎ ((i : ℕ) × (k ≡ length xs + i) × (slice_get ys i ≡ Some a)) → (slice_get (x ∷ xs) (suc k) ≡ Some a) ⊎ ((i : ℕ) × (suc k ≡ length (x ∷ xs) + i) × (slice_get ys i ≡ Some a))
     by (inl h) = inl h
     by (inr h) = let at = h.1 in inr (h.0, omega (arith, at), h.2)
+
+pub if-ok : {X E : Type 0} (P Q : X → Type 0) (r : Result X E) → ((x : X) → P x → Q x) → IfOk r P → IfOk r Q
+if-ok P Q (Ok x) f h = f x h
+if-ok P Q (Err e) f h = tt

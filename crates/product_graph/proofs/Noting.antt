@@ -6,7 +6,7 @@ use Rattle.product_graph.specs.declared.search.Found.{Found}
 use Rattle.product_graph.specs.Followers.{follower_numbers}
 use Rattle.product_graph.specs.Numbered.{IsPut, Ground, IsOnGround, next_of, GoesOnBy, PassesTo, IsReachable}
 use Rattle.product_graph.specs.Finding.{IsNotedAfter, JoinsFound, IsFollowedThere, IsFinding}
-use Rattle.product_graph.proofs.Lists.{some-same, below_or_at, all-get, all-contained, contained-all, get-below, get-contains, contains-get, get-more, get-snoc, contains-left, contains-last, contains-snoc, contains-none}
+use Rattle.product_graph.proofs.Lists.{some-same, below_or_at, all-contained, contained-all, get-below, get-contains, contains-get, get-more, get-snoc, contains-left, contains-last, contains-snoc, contains-none}
 
 passes-on : (g : Ground) (p : NumberedVertex) (ks : List ℕ) (q : NumberedVertex) (k : ℕ) → PassesTo g p ks q → GoesOnBy g q k → PassesTo g p (ks ++ k ∷ []) (next_of g q k)
 passes-on g p [] q k h goes = (subst (λ x. GoesOnBy g x k) (sym h) goes, ap (λ x. next_of g x k) h)

@@ -1,23 +1,21 @@
 -- Symbols by their numbers.
-use Rattle.std.proofs.Common.{◌≡◌, ◌<◌, ◌≤◌, ◌⊎◌, ◌↔◌, inl, inr, ℕ, suc, List, [], ◌∷◌, length, get_or, slice_get, Contains, Option, None, Some, IsSome, is_some, not, true, false, Bool, option_map, refl, sym, ◌∙◌, ap, subst, arith}
+use Rattle.std.proofs.Common.{◌≡◌, ◌<◌, ◌≤◌, ◌⊎◌, ◌↔◌, inl, inr, ℕ, List, length, get_or, slice_get, Contains, Option, None, Some, IsSome, is_some, not, true, false, Bool, refl, sym, ◌∙◌, ap, subst, arith}
 use Rattle.merlin_model.specs.declared.policy.Symbol.{Symbol}
-use Rattle.merlin_model.specs.Networks.{Network, IsHost, Pairwise, address_of}
+use Rattle.merlin_model.specs.Networks.{Network, Pairwise, address_of}
 use Rattle.merlin_model.specs.declared.network.HostAddress.{HostAddress}
-use Rattle.merlin_model.specs.Words.{at, IsSymbol, MayFollow}
+use Rattle.merlin_model.specs.Words.{at, MayFollow}
 use Rattle.merlin_model.proofs.Members.{in_from}
 use Rattle.path_automaton.specs.Automata.{AutomatonTables, step, accepts, number_in}
 use Rattle.path_automaton.proofs.Listed.{number-at}
-use Rattle.rules_model.specs.Products.{IsLast}
 use Rattle.product_graph.specs.declared.vertex_set.NumberedVertex.{NumberedVertex}
 use Rattle.product_graph.specs.declared.leading.Destination.{Destination}
 use Rattle.product_graph.specs.declared.leading.Leading.{Leading}
 use Rattle.graph_search.specs.Graphs.{known_at}
 use Rattle.product_graph.specs.Followers.{IsSymbolBefore, AreOrderedSymbols}
 use Rattle.product_graph.specs.Products.{automaton_of}
-use Rattle.product_graph.specs.Ends.{IsDestination, IsLastBy, HasNumbersOf, IsSymbolInside}
-use Rattle.product_graph.specs.Numbered.{vertex_by}
+use Rattle.product_graph.specs.Ends.{IsDestination, IsLastBy, IsSymbolInside}
 use Rattle.product_graph.specs.Finding.{IsSeenLeading, IsReadable}
-use Rattle.product_graph.proofs.Lists.{some-same, false-true, lt-or-ge, get-contains, get-below, get-at, at-get, pairwise-get, all-at, all-get}
+use Rattle.product_graph.proofs.Lists.{some-same, false-true, lt-or-ge, get-contains, pairwise-get, all-at, all-get}
 use Rattle.product_graph.proofs.Following.{symbols-among}
 
 -- no symbol comes before itself

@@ -1,5 +1,5 @@
 -- The place of a vertex among others.
-use Rattle.std.proofs.Common.{◌≡◌, ℕ, Bool, true, List, slice_get, Contains, Option, None, Some, MatchOption, position, refl, sym, ◌∙◌, ap}
+use Rattle.std.proofs.Common.{◌≡◌, ℕ, Bool, true, List, slice_get, Contains, Option, None, Some, MatchOption, position, sym, ◌∙◌, ap}
 use Rattle.merlin_model.proofs.Members.{in_from}
 use Rattle.topology.proofs.Lookup.{position_at, position_none}
 use Rattle.product_graph.specs.declared.vertex_set.NumberedVertex.{NumberedVertex}

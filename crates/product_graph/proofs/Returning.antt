@@ -1,6 +1,5 @@
 -- From which places edges lead to the last one.
-use Rattle.std.proofs.Common.{◌≡◌, ◌<◌, ◌⊎◌, ◌↔◌, inl, inr, ◌+◌, ℕ, suc, zero, List, [], ◌∷◌, ◌++◌, length, slice_get, Contains, Option, None, Some, IsSome, MatchOption, true, false, refl, sym, ◌∙◌, ap, subst, arith}
-use Rattle.std.specs.List.{AllByRecursion}
+use Rattle.std.proofs.Common.{◌≡◌, ◌<◌, ◌⊎◌, ◌↔◌, inl, inr, ◌+◌, ℕ, suc, zero, List, [], ◌∷◌, ◌++◌, length, slice_get, Contains, Option, None, Some, IsSome, refl, sym, ◌∙◌, ap, subst, arith}
 use Rattle.std.proofs.lemmas.List.Sums.{sum_by-cons}
 use Rattle.graph_search.specs.declared.graph.Edge.{Edge}
 use Rattle.graph_search.specs.declared.paths.Potentials.{Potentials}
@@ -10,8 +9,8 @@ use Rattle.product_graph.specs.declared.search.Found.{Found}
 use Rattle.product_graph.specs.declared.leading.Leading.{Leading}
 use Rattle.product_graph.specs.Inside.{AreInside}
 use Rattle.product_graph.specs.Reversed.{reversed_edge, reversed_edges}
-use Rattle.product_graph.specs.Numbered.{Ground, next_of, GoesOnBy, IsReachable, PassesOut, LeadsOut}
-use Rattle.product_graph.specs.Finding.{JoinsFound, IsFollowedThere, IsFinding, IsAllFound, StepsTo, ComesTo, JoinsEnd, AreLeading, IsReadable, IsSeenLeading}
+use Rattle.product_graph.specs.Numbered.{Ground, next_of, IsReachable, PassesOut, LeadsOut}
+use Rattle.product_graph.specs.Finding.{IsAllFound, StepsTo, ComesTo, JoinsEnd, AreLeading, IsReadable, IsSeenLeading}
 use Rattle.product_graph.proofs.Lists.{some-same, none-some, false-true, get-below, get-contains, contains-get, all-contained, contained-all}
 use Rattle.product_graph.proofs.Noting.{reach-all}
 
@@ -107,8 +106,10 @@ module _ (g : Ground) (IsOneOfLast : NumberedVertex → Type 0) (starts : List N
     long = let long = known.distances in omega (arith, long);
     on = all.on;
     reachable = λ q. (λ c. all.reached q c, λ r. reach-all g starts found all q r);
-    leads = λ i q e. (λ h. let c = (known-comes (length found.vertices + 1) edges (length found.vertices) p known i).0 h in comes-leads c.0 i q e c.1,
-        λ h. (known-comes (length found.vertices + 1) edges (length found.vertices) p known i).1 (leads-comes h.0 i q e h.1));
+    leads = λ i q e. (
+      λ h. let c = (known-comes (length found.vertices + 1) edges (length found.vertices) p known i).0 h in comes-leads c.0 i q e c.1,
+      λ h. (known-comes (length found.vertices + 1) edges (length found.vertices) p known i).1 (leads-comes h.0 i q e h.1),
+    );
   }
 
 pub readable : (g : Ground) (IsOneOfLast : NumberedVertex → Type 0) (starts : List NumberedVertex) (l : Leading) → AreLeading g IsOneOfLast starts l → IsReadable l

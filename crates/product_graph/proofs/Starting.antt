@@ -1,8 +1,8 @@
 -- The vertices at which walks start, symbol by symbol.
-use Rattle.std.proofs.Common.{◌≡◌, ◌≢◌, ◌<◌, ◌⊎◌, ◌↔◌, inl, inr, ◌+◌, ℕ, suc, List, [], ◌∷◌, ◌++◌, length, slice_get, Contains, Some, None, refl, sym, ◌∙◌, ap, subst, arith}
+use Rattle.std.proofs.Common.{◌≡◌, ◌<◌, ◌⊎◌, inl, inr, ◌+◌, ℕ, List, [], ◌∷◌, ◌++◌, length, slice_get, Contains, Some, None, refl, sym, ◌∙◌, ap, subst, arith}
 use Rattle.std.specs.List.{AllByRecursion}
 use Rattle.merlin_model.specs.declared.policy.Symbol.{Symbol}
-use Rattle.merlin_model.specs.Networks.{Network, IsHost, Pairwise}
+use Rattle.merlin_model.specs.Networks.{Network, IsHost}
 use Rattle.merlin_model.specs.Words.{at}
 use Rattle.rules_model.proofs.Trees.{host_symbol}
 use Rattle.path_automaton.specs.Automata.{AutomatonTables, step}
@@ -12,14 +12,14 @@ use Rattle.product_graph.specs.declared.vertex_set.NumberedVertex.{NumberedVerte
 use Rattle.product_graph.specs.Products.{IsSource}
 use Rattle.product_graph.specs.Followers.{AreOrderedSymbols}
 use Rattle.product_graph.specs.Numbered.{IsNumberedBefore}
-use Rattle.product_graph.specs.Ends.{HasNumbersOf, IsStartBy, AreStartsBelow, IsNamed, IsStartSymbol}
-use Rattle.product_graph.proofs.Lists.{some-same, below_or_at, all-map, all-snoc, all-contained, contained-all, pairwise-snoc, contains-none, contains-left, contains-last, contains-snoc}
+use Rattle.product_graph.specs.Ends.{HasNumbersOf, IsStartBy, AreStartsBelow, NamesStart, IsStartSymbol}
+use Rattle.product_graph.proofs.Lists.{some-same, below_or_at, all-map, all-snoc, pairwise-snoc, contains-none, contains-left, contains-last, contains-snoc}
 
-pub named-source : (net : Network) (span : Span2) (h : ℕ) → IsNamed span h → IsHost net h → IsSource net span h
+pub named-source : (net : Network) (span : Span2) (h : ℕ) → NamesStart span h → IsHost net h → IsSource net span h
 named-source net (Pair s d) h named host = (host, named)
 named-source net (All d) h named host = (host, named)
 
-pub source-named : (net : Network) (span : Span2) (h : ℕ) → IsSource net span h → IsNamed span h
+pub source-named : (net : Network) (span : Span2) (h : ℕ) → IsSource net span h → NamesStart span h
 source-named net (Pair s d) h source = source.1
 source-named net (All d) h source = source.1
 

@@ -1,5 +1,5 @@
 -- What is assembled is the product.
-use Rattle.std.proofs.Common.{◌≡◌, ◌≢◌, ◌<◌, ◌≤◌, ◌⊎◌, ◌↔◌, inl, inr, ◌+◌, ℕ, suc, zero, Bool, true, false, List, [], ◌∷◌, ◌++◌, length, map, get_or, slice_get, Contains, Some, None, append_assoc, refl, sym, ◌∙◌, ap, ap₂, subst, arith}
+use Rattle.std.proofs.Common.{◌≡◌, ◌≢◌, ◌<◌, ◌≤◌, ◌⊎◌, ◌↔◌, inl, inr, ℕ, suc, zero, Bool, true, false, List, [], ◌∷◌, ◌++◌, length, map, get_or, slice_get, Contains, Some, None, append_assoc, refl, sym, ◌∙◌, ap, ap₂, subst, arith}
 use Rattle.std.specs.List.{AllByRecursion}
 use Rattle.merlin_model.specs.declared.policy.Symbol.{Symbol}
 use Rattle.merlin_model.specs.Networks.{Network, IsHost, Pairwise}
@@ -11,16 +11,15 @@ use Rattle.product_graph.specs.declared.vertex_set.NumberedVertex.{NumberedVerte
 use Rattle.product_graph.specs.declared.leading.Destination.{Destination}
 use Rattle.product_graph.specs.declared.kept.Kept.{Kept}
 use Rattle.product_graph.specs.declared.span.Span2.{Span2}
-use Rattle.product_graph.specs.declared.span.Vertex.{Vertex as ListedVertex}
 use Rattle.product_graph.specs.declared.span.Product.{Product}
-use Rattle.product_graph.specs.Products.{automaton_of, dest_of, IsSource, vertex_of, vertices_of, IsBefore, StandsIn, IsStart, IsJoined, IsCut, IsTrimmed, IsProduct}
+use Rattle.product_graph.specs.Products.{automaton_of, dest_of, IsSource, vertex_of, vertices_of, IsBefore, StandsIn, IsStart, IsJoined, IsCut, IsTrimmed}
 use Rattle.product_graph.specs.Inside.{AreInside}
 use Rattle.product_graph.specs.Followers.{AreOrderedSymbols, AreFollowersOf}
 use Rattle.product_graph.specs.Numbered.{Ground, ground_of, next_of, GoesOnBy, PassesOut, LeadsOut, IsNumberedBefore, vertex_by}
-use Rattle.product_graph.specs.Ends.{IsDestination, IsLastBy, HasNumbersOf, IsStartBy, IsSymbolInside}
+use Rattle.product_graph.specs.Ends.{IsDestination, IsLastBy, HasNumbersOf, IsSymbolInside}
 use Rattle.product_graph.specs.Joining.{AreLasts, IsEdgeOut, AreEdgesBelow, IsLeastBelow}
 use Rattle.product_graph.specs.Kept.{LiesBetween, AreBetween, listed_by, IsAssembled, IsNothing}
-use Rattle.product_graph.proofs.Lists.{some-same, none-some, all-from, get-below, get-contains, contains-get, get-at, at-get, all-get, all-contained, contained-all, map-length, contains-either, contains-left, contains-right, contains-none}
+use Rattle.product_graph.proofs.Lists.{some-same, none-some, get-below, get-contains, contains-get, get-at, at-get, all-get, all-contained, contained-all, map-length, contains-left, contains-right}
 use Rattle.product_graph.proofs.Numbers.{steps-by}
 use Rattle.product_graph.proofs.Noting.{reach-on}
 use Rattle.product_graph.proofs.Bridging.{goes-inside, vertex-once, edge-goes, goes-edge, leads-out, start-vertex, vertex-start, stands-lies, lies-stands, before-by}

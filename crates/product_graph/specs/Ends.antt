@@ -1,5 +1,5 @@
 -- The hosts at which walks start and end, by numbers.
-use Rattle.std.specs.Prelude.{ℕ, ◌≡◌, ◌≢◌, ◌≤◌, ◌<◌, ◌↔◌, List, length, slice_get, Contains, Some, Option, None}
+use Rattle.std.specs.Prelude.{ℕ, ◌≡◌, ◌≢◌, ◌<◌, ◌↔◌, List, length, slice_get, Contains, Some, None}
 use Rattle.std.specs.List.{AllByRecursion}
 use Rattle.merlin_model.specs.declared.policy.Symbol.{Symbol}
 use Rattle.merlin_model.specs.Networks.{Network, IsHost, Pairwise}
@@ -51,9 +51,9 @@ abbrev pub HasSymbolAndBelow : ℕ → ℕ → NumberedVertex → Type 0
 HasSymbolAndBelow k bound p = (p.symbol ≡ k) × (p.state < bound)
 
 -- the span names the location as a start
-abbrev pub IsNamed : Span2 → ℕ → Type 0
-IsNamed (Pair s d) h = h ≡ s
-IsNamed (All d) h = h ≢ d
+abbrev pub NamesStart : Span2 → ℕ → Type 0
+NamesStart (Pair s d) h = h ≡ s
+NamesStart (All d) h = h ≢ d
 
 -- walks may start with the symbol
 abbrev pub IsStartSymbol : Network → Span2 → Symbol → Type 0

@@ -1,6 +1,6 @@
 -- What a search from some vertices has found.
 use Rattle.std.specs.Prelude.{ℕ, suc, ◌≡◌, ◌<◌, ◌⊎◌, ◌↔◌, List, [], ◌∷◌, ◌++◌, length, slice_get, Contains, Some, IsSome}
-use Rattle.std.specs.List.{AllByRecursion, slice_index_or}
+use Rattle.std.specs.List.{AllByRecursion}
 use Rattle.merlin_model.specs.Networks.{Pairwise}
 use Rattle.graph_search.specs.Graphs.{known_at}
 use Rattle.product_graph.specs.declared.vertex_set.NumberedVertex.{NumberedVertex}

@@ -1,6 +1,6 @@
 -- Vertices by the numbers of their symbols, and what leads from one to another.
 use Rattle.std.specs.Prelude.{ℕ, ◌≡◌, ◌<◌, ◌⊎◌, List, [], ◌∷◌, ◌++◌, length, slice_get, Contains, Some}
-use Rattle.std.specs.List.{AllByRecursion, slice_index_or}
+use Rattle.std.specs.List.{slice_index_or}
 use Rattle.merlin_model.specs.declared.policy.Symbol.{Symbol}
 use Rattle.merlin_model.specs.Words.{at}
 use Rattle.path_automaton.specs.Automata.{AutomatonTables, step}

@@ -43,7 +43,7 @@ impl Graph for Backwards {
 }
 
 /// How many edges lead from each place to the last one, along a path with the fewest.
-pub fn distances(
+pub fn edges_left(
     alloc: Global,
     edges: Items<(usize, usize)>,
     last: usize,

@@ -163,7 +163,8 @@ pub fn least_entered(
     requires lasts { length lasts.now ≡ length vertices.now }
     requires symbol { symbol < automaton.now.width }
     requires states { AllByRecursion (λ p. p.state < length automaton.now.steps) vertices.now }
-    ensures { IsLeastBelow automaton.now symbol vertices.now lasts.now (length vertices.now) result }
+    ensures { IsLeastBelow automaton.now symbol vertices.now lasts.now
+        (length vertices.now) result }
 {
     let mut least = None;
     for (place, vertex) in vertices.iter().enumerate() {

@@ -98,5 +98,12 @@ pub fn between(
     let starts = starts_of(alloc, net, symbols, automaton, span)?;
     let found = reach(alloc, starts.as_slice(), followers, automaton)?;
     let leading = leading_to_end(alloc, found, net, symbols, automaton, destination)?;
-    kept_of(alloc, starts.as_slice(), &leading, net, symbols, automaton.states())
+    kept_of(
+        alloc,
+        starts.as_slice(),
+        &leading,
+        net,
+        symbols,
+        automaton.states(),
+    )
 }

@@ -14,7 +14,7 @@ ghost use Rattle.product_graph.specs.Finding.{AreKeptStarts, AreKeptAmong};
 ghost use Rattle.product_graph.specs.Ends.{IsDestination, IsLastBy, HasNumbersOf};
 ghost use Rattle.product_graph.specs.Ends.{HasSymbolAndBelow, IsInsideBelow};
 
-use crate::backwards::distances;
+use crate::backwards::edges_left;
 use crate::rows::may_follow;
 use crate::search::Found;
 use crate::vertex_set::{NumberedVertex, VertexSet};
@@ -107,11 +107,18 @@ pub fn leading_to_end(
         vertices,
         mut edges,
     } = found;
-    join_end(&mut edges, vertices.as_slice(), net, symbols, automaton, destination)?;
+    join_end(
+        &mut edges,
+        vertices.as_slice(),
+        net,
+        symbols,
+        automaton,
+        destination,
+    )?;
     let Potentials {
         distance,
         before: _,
-    } = distances(alloc, edges, vertices.len())?;
+    } = edges_left(alloc, edges, vertices.len())?;
     Ok(Leading { vertices, distance })
 }
 

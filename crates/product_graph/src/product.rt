@@ -136,7 +136,15 @@ fn product_of(
                 fun: None,
             };
             let end = Vertex { symbol, state };
-            assembled(alloc, kept, lasts.as_slice(), symbols, followers, automaton, end)
+            assembled(
+                alloc,
+                kept,
+                lasts.as_slice(),
+                symbols,
+                followers,
+                automaton,
+                end,
+            )
         }
     }
 }
@@ -160,7 +168,15 @@ pub fn build_over(
 {
     let destination = destination_of(net, symbols, span);
     let kept = between(alloc, net, symbols, followers, automaton, span, destination)?;
-    product_of(alloc, &kept, net, symbols, followers, automaton, destination)
+    product_of(
+        alloc,
+        &kept,
+        net,
+        symbols,
+        followers,
+        automaton,
+        destination,
+    )
 }
 
 /// The product of an automaton with a network between hosts. The automaton goes by the numbers of the

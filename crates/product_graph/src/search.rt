@@ -24,10 +24,7 @@ pub struct Found {
 }
 
 /// The vertices that are in the list.
-fn vertices_among(
-    alloc: Global,
-    starts: &[NumberedVertex],
-) -> Result<VertexSet, OutOfMemory>
+fn vertices_among(alloc: Global, starts: &[NumberedVertex]) -> Result<VertexSet, OutOfMemory>
     ensures { IfOk result (λ vertices. (p : NumberedVertex) →
         Contains vertices p ↔ Contains starts.now p) }
 {

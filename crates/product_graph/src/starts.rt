@@ -5,7 +5,7 @@ ghost use Rattle.merlin_model.specs.Networks.{IsHost};
 ghost use Rattle.merlin_model.specs.Words.{at};
 ghost use Rattle.product_graph.specs.Products.{IsSource, dest_of};
 ghost use Rattle.product_graph.specs.Followers.{AreOrderedSymbols};
-ghost use Rattle.product_graph.specs.Ends.{IsNamed, IsStartSymbol, AreStartsBelow, IsDestinationOf};
+ghost use Rattle.product_graph.specs.Ends.{NamesStart, IsStartSymbol, AreStartsBelow, IsDestinationOf};
 
 use crate::leading::Destination;
 use crate::span::Span2;
@@ -19,7 +19,7 @@ use topology::Topology;
 
 /// Whether the hosts between which walks lead name the location as a start.
 fn is_named(span: Span2, loc: usize) -> bool
-    ensures { IsTrue result ↔ IsNamed span loc }
+    ensures { IsTrue result ↔ NamesStart span loc }
 {
     match span {
         Span2::Pair { src, dst: _ } => loc == src,

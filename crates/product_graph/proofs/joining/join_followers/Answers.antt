@@ -1,4 +1,4 @@
-use Rattle.std.proofs.Common.{◌≡◌, ◌<◌, ◌++◌, ◌∷◌, ◌+◌, [], ℕ, List, length, take, get_or, slice_get, Contains, Some, sym, ◌∙◌, ap, subst}
+use Rattle.std.proofs.Common.{◌≡◌, ◌<◌, ℕ, List, take, get_or, slice_get, Contains, Some, sym, subst}
 use Rattle.product_graph.specs.declared.vertex_set.NumberedVertex.{NumberedVertex}
 use Rattle.product_graph.specs.Inside.{AreRising}
 use Rattle.product_graph.specs.Numbered.{Ground, ground_of, next_of, GoesOnBy}

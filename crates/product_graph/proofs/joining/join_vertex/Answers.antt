@@ -1,8 +1,6 @@
-use Rattle.std.proofs.Common.{◌≡◌, ◌++◌, ◌∷◌, [], ℕ, List, length, get_or, slice_get, Some, append_assoc, sym, ◌∙◌, ap, ap₂, subst}
+use Rattle.std.proofs.Common.{◌≡◌, ◌++◌, ◌∷◌, [], ℕ, List, length, get_or, slice_get, Some, append_assoc, sym, ◌∙◌, ap, ap₂}
 use Rattle.product_graph.specs.declared.vertex_set.NumberedVertex.{NumberedVertex}
-use Rattle.product_graph.specs.Followers.{follower_numbers}
 use Rattle.product_graph.specs.Numbered.{Ground, ground_of}
-use Rattle.product_graph.specs.Joining.{AreEdgesBy}
 use Rattle.product_graph.proofs.Lists.{get-at}
 use Rattle.product_graph.proofs.Joins.{out-with, out-without}
 use Rattle.product_graph.proofs.joining.join_vertex.Goals as goal

@@ -1,6 +1,5 @@
-use Rattle.std.proofs.Common.{◌≡◌, ◌+◌, ℕ, List, Bool, Option, false, get_or, sym, ◌∙◌, ap, subst, refl}
+use Rattle.std.proofs.Common.{◌+◌, ℕ, List, Bool, false, get_or, sym, ◌∙◌, ap, subst, refl}
 use Rattle.product_graph.specs.declared.vertex_set.NumberedVertex.{NumberedVertex}
-use Rattle.path_automaton.specs.Automata.{step}
 use Rattle.product_graph.specs.Joining.{IsLeastBelow, lowered_by}
 use Rattle.product_graph.proofs.Lists.{get-at}
 use Rattle.product_graph.proofs.Joins.{least-next}

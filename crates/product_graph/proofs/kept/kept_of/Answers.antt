@@ -1,4 +1,4 @@
-use Rattle.std.proofs.Common.{◌≡◌, ◌++◌, List, sym, ap₂, subst}
+use Rattle.std.proofs.Common.{◌++◌, sym, ap₂, subst}
 use Rattle.merlin_model.specs.Networks.{AreDifferent}
 use Rattle.product_graph.proofs.Listing.{kept-different}
 use Rattle.product_graph.proofs.kept.kept_of.Goals as goal

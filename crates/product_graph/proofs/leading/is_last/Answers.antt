@@ -1,4 +1,4 @@
-use Rattle.std.proofs.Common.{◌≡◌, sym, ◌∙◌, ap, arith}
+use Rattle.std.proofs.Common.{◌∙◌, ap, arith}
 use Rattle.product_graph.proofs.Lists.{get-below}
 use Rattle.path_automaton.specs.Automata.{accepts}
 use Rattle.merlin_model.specs.Words.{at}

@@ -1,4 +1,4 @@
-use Rattle.std.proofs.Common.{◌≡◌, ◌↔◌, ◌⊎◌, ◌≤◌, ◌++◌, ◌∷◌, [], ◌+◌, ℕ, List, length, get_or, slice_get, Contains, Some, sym, ◌∙◌, subst, arith}
+use Rattle.std.proofs.Common.{◌≡◌, ◌↔◌, ◌⊎◌, ◌≤◌, ◌+◌, ℕ, List, length, get_or, slice_get, Contains, Some, sym, ◌∙◌, subst}
 use Rattle.product_graph.specs.declared.vertex_set.NumberedVertex.{NumberedVertex}
 use Rattle.product_graph.specs.Ends.{IsLastBy}
 use Rattle.product_graph.proofs.Lists.{false-true, get-at}

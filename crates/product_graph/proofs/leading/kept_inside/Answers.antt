@@ -1,6 +1,5 @@
-use Rattle.std.proofs.Common.{◌≡◌, ◌++◌, ◌+◌, ℕ, List, None, get_or, sym, ◌∙◌, subst}
+use Rattle.std.proofs.Common.{◌+◌, ℕ, None, get_or, sym, ◌∙◌, subst}
 use Rattle.merlin_model.specs.declared.policy.Symbol.{Symbol}
-use Rattle.product_graph.specs.declared.vertex_set.NumberedVertex.{NumberedVertex}
 use Rattle.product_graph.specs.Finding.{AreKeptAmong}
 use Rattle.product_graph.specs.Ends.{IsInsideBelow}
 use Rattle.product_graph.proofs.Lists.{get-at}

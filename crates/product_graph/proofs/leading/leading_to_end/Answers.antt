@@ -9,8 +9,8 @@ use Rattle.product_graph.specs.Finding.{JoinsEnd}
 use Rattle.product_graph.proofs.Returning.{are-inside, are-leading}
 use Rattle.product_graph.proofs.leading.leading_to_end.Goals as goal
 
-pub distances-requires-clause-edges : goal.distances-requires-clause-edges
-distances-requires-clause-edges c =
+pub edges_left-requires-clause-edges : goal.edges_left-requires-clause-edges
+edges_left-requires-clause-edges c =
     let P : NumberedVertex → Type 0 = IsLastBy c.args.net.now c.args.symbols.now c.args.automaton.now c.args.destination.host in
     subst (λ n. AreInside (n + 1) c.join_end.new.edges None) (sym c.len.ensures.count)
     (are-inside P c.args.found.vertices c.args.found.edges c.join_end.new.edges c.requires.edges

@@ -1,4 +1,3 @@
-use Rattle.std.proofs.Common.{◌≡◌, ap, subst, sym}
 use Rattle.product_graph.proofs.Following.{symbols-among, have-rows}
 use Rattle.product_graph.proofs.rows.followers_in.Goals as goal
 

@@ -1,4 +1,4 @@
-use Rattle.std.proofs.Common.{◌≡◌, ◌+◌, ℕ, List, false, true, None, get_or, sym, ◌∙◌, subst}
+use Rattle.std.proofs.Common.{◌+◌, ℕ, List, None, get_or, sym, ◌∙◌, subst}
 use Rattle.merlin_model.specs.declared.policy.Symbol.{Symbol}
 use Rattle.product_graph.specs.Followers.{IsFollowerRow}
 use Rattle.product_graph.proofs.Lists.{get-at, false-true}

@@ -1,7 +1,5 @@
-use Rattle.std.proofs.Common.{◌≡◌, ◌<◌, ◌≤◌, ◌++◌, ◌∷◌, [], ℕ, List, length, take, get_or, slice_get, Contains, Some, sym, ◌∙◌, ap, subst}
-use Rattle.std.specs.List.{AllByRecursion}
+use Rattle.std.proofs.Common.{◌<◌, ◌≤◌, ℕ, List, length, take, get_or, Contains, sym, ◌∙◌, subst}
 use Rattle.std.proofs.lemmas.List.{take_all}
-use Rattle.product_graph.specs.declared.vertex_set.NumberedVertex.{NumberedVertex}
 use Rattle.product_graph.specs.Numbered.{Ground, ground_of, next_of, IsOnGround, GoesOnBy}
 use Rattle.product_graph.specs.Finding.{IsNotedAfter, IsFinding}
 use Rattle.product_graph.proofs.Lists.{take-more, all-at, get-at, get-contains}

@@ -1,4 +1,4 @@
-use Rattle.std.proofs.Common.{◌≡◌, ◌↔◌, ◌≤◌, ◌+◌, ℕ, List, length, take, get_or, Contains, subst, arith}
+use Rattle.std.proofs.Common.{◌↔◌, ◌≤◌, ◌+◌, ℕ, List, length, take, get_or, Contains, subst}
 use Rattle.std.proofs.lemmas.List.{take_all}
 use Rattle.product_graph.specs.declared.vertex_set.NumberedVertex.{NumberedVertex}
 use Rattle.product_graph.proofs.Lists.{take-more}

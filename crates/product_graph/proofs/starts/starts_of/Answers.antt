@@ -1,7 +1,5 @@
-use Rattle.std.proofs.Common.{◌≡◌, ◌<◌, ◌++◌, ◌∷◌, [], ◌+◌, ℕ, List, None, length, get_or, sym, ◌∙◌, subst}
+use Rattle.std.proofs.Common.{◌<◌, ◌++◌, ◌∷◌, [], ◌+◌, ℕ, None, length, get_or, sym, ◌∙◌, subst}
 use Rattle.merlin_model.specs.declared.policy.Symbol.{Symbol}
-use Rattle.path_automaton.specs.Automata.{step}
-use Rattle.product_graph.specs.declared.vertex_set.NumberedVertex.{NumberedVertex}
 use Rattle.product_graph.specs.Ends.{AreStartsBelow}
 use Rattle.product_graph.proofs.Lists.{get-at, false-true}
 use Rattle.product_graph.proofs.Numbers.{loc-within}

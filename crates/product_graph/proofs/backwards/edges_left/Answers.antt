@@ -2,7 +2,7 @@ use Rattle.std.proofs.Common.{◌≡◌, ◌<◌, ◌^◌, lit<, length, ap, ari
 use Rattle.graph_search.specs.Graphs.{cost_of_all}
 use Rattle.product_graph.specs.Reversed.{reversed_edges}
 use Rattle.product_graph.proofs.Returning.{costs-all}
-use Rattle.product_graph.proofs.backwards.distances.Goals as goal
+use Rattle.product_graph.proofs.backwards.edges_left.Goals as goal
 
 pub least-requires-clause-costs : goal.least-requires-clause-costs
 least-requires-clause-costs c =

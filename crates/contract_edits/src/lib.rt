@@ -6,6 +6,8 @@
 
 pub mod automata;
 pub mod configs;
+pub mod divisions;
 pub mod files;
 pub mod policies;
+pub mod splits;
 pub mod topologies;

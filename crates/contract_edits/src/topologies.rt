@@ -3,8 +3,7 @@
 ghost use Rattle.std.specs.Prelude.{◌≡◌, ◌<◌, ℕ, Some, length, option_map, IfOk, IfErr, IfSome, IfNone};
 ghost use Rattle.merlin_model.specs.Networks.{address_of, AreLinked};
 ghost use Rattle.merlin_model.specs.Machine.{link_at};
-ghost use Rattle.topology.specs.Format.{IsTopology};
-ghost use Rattle.topology.specs.Faults.{Refuses};
+ghost use Rattle.topology_rules.specs.Faults.{IsTopology, Refuses};
 ghost use Rattle.topology.specs.Look.{name_of, far_end};
 
 use std::alloc::Global;

@@ -4,6 +4,7 @@
 use merlin::run;
 use merlin_base::{Status, StdFiles, StdSink};
 use packet_model::Packet;
+use packet_trace::declared;
 use std::alloc::AllocError;
 use std::process::ExitCode;
 use std::rt::Env;
@@ -30,7 +31,7 @@ fn main(rt: HostRuntime) -> ExitCode {
         &words,
         &mut files,
         &mut out,
-        |_decl: &FnDecl, packet: Packet| packet,
+        |decl: &FnDecl, packet: Packet| declared(decl, packet),
     );
     ExitCode::from(status.code())
 }

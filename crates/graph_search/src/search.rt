@@ -48,7 +48,8 @@ fn begin(alloc: Global, vertices: usize, source: usize) -> Result<SearchState, O
 fn nearest(search: &mut SearchState) -> Option<(u128, usize)>
     requires { WaitWithin (length search.old.settled) search.old }
     ensures next { (n : ℕ) (edges : List Edge) (source low : ℕ) →
-        IsSettling n edges source low n 0 search.old → IsNextSettled n edges source result search.new }
+        IsSettling n edges source low n 0 search.old →
+        IsNextSettled n edges source result search.new }
     ensures settled { search.new.settled ≡ search.old.settled }
 {
     'entries: while let Some((cost, vertex)) = search.frontier.pop() {

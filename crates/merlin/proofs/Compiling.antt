@@ -1,7 +1,7 @@
 -- What is replied to a policy and a topology: a text stands for one policy or is refused, and not
 -- both.
-use Rattle.std.proofs.Common.{◌≡◌, ◌≢◌, ◌⊎◌, inl, inr, List, [], ◌∷◌, ℕ, Result, Ok, Err, refl, sym, ◌∙◌, ap, subst, unwrap_or}
-use Rattle.std.specs.Prelude.{Option, Some}
+use Rattle.std.proofs.Common.{◌≡◌, ◌≢◌, inl, inr, List, [], ◌∷◌, ℕ, Result, Ok, Err, IfErr, refl, sym, ◌∙◌, ap, subst, unwrap_or}
+use Rattle.std.specs.Prelude.{Some}
 use Rattle.merlin_base.specs.declared.status.Status.TheVariants as status
 use Rattle.merlin_model.specs.Networks.{Network}
 use Rattle.policy_expansion.specs.declared.policy.Policy.{Policy}
@@ -9,16 +9,25 @@ use Rattle.policy_parser.specs.declared.fault.PolicyFault.{PolicyFault}
 use Rattle.policy_parser.specs.declared.fault.PolicyFault.TheVariants as faults
 use Rattle.policy_parser.specs.Policies.{IsPolicyText, IsRefused, AreOne}
 use Rattle.policy_parser.proofs.Once.{one_reading}
-use Rattle.topology.specs.Format.{IsTopology, IsTopologyOf}
-use Rattle.topology.specs.Faults.{Refuses as IsRefusedTopology}
-use Rattle.topology.specs.declared.fault.NetFault.{NetFault}
-use Rattle.topology.specs.declared.fault.NetFault.TheVariants as net_faults
-use Rattle.merlin.specs.Compiler.{IsSupported, IsSupportedText, IsUnsupportedText, IsRefusal, IsEarlyFault, IsWantOfMemory}
+use Rattle.policy_check.specs.declared.fault.CheckFault.{CheckFault}
+use Rattle.policy_check.specs.declared.fault.CheckFault.TheVariants as check_faults
+use Rattle.policy_check.specs.declared.fault.EndsFault.{EndsFault}
+use Rattle.policy_check.specs.declared.fault.EndsFault.TheVariants as ends_faults
+use Rattle.policy_check.specs.Rules.{BreaksRule}
+use Rattle.policy_check.specs.Ends.{BreaksEnds}
+use Rattle.policy_check.specs.Numbered.{numbered_policy}
+use Rattle.topology.specs.Symbols.{network_symbols}
+use Rattle.topology_rules.specs.Faults.{IsTopology, Refuses as IsRefusedTopology}
+use Rattle.topology_rules.specs.declared.fault.NetFault.{NetFault}
+use Rattle.topology_rules.specs.declared.fault.NetFault.TheVariants as net_faults
+use Rattle.merlin.specs.Compiler.{plain_policy, IsCompilable, AreCompilable, AreUnbuilt, IsCompiledFrom, IsRefusal, IsFaultOver, IsEarlyFault, IsWantOfMemory}
 use Rattle.merlin.specs.Compile.{CompileForm, Compiles, IsCompileReply, compile_status}
+use Rattle.merlin.specs.declared.compiler.Compiled.{Compiled}
 use Rattle.merlin.specs.declared.compiler.EarlyFault.{EarlyFault}
 use Rattle.merlin.specs.declared.compiler.EarlyFault.TheVariants as early
 use Rattle.merlin.specs.declared.compile.CompileReply.{CompileReply}
 use Rattle.merlin.specs.declared.compile.CompileReply.TheVariants.{Refused, Least}
+use Rattle.merlin.proofs.PlainKept.{plain_keeps, plain_ends}
 
 Some-inj : {X : Type 0} {x y : X} → Some x ≡ Some y → x ≡ y
 Some-inj {x = x} e = ap (λ o. unwrap_or o x) e
@@ -39,18 +48,12 @@ same p q (inl e) = cc
 same p q (inr (inl e)) = cc
 same p q (inr (inr e)) = cc
 
--- a text stands for one policy
-not_other : (text : List ℕ) → IsSupportedText text → IsUnsupportedText text → ⊥
-not_other text is other = other.other (sym (same is.raw other.raw (one_reading text (Ok is.raw) (Ok other.raw) is.stands other.stands)) ∙ is.supported)
-
-not_refused_net : (topology : List ℕ) (net : Network) (fault : NetFault)
-    → fault ≢ net_faults.OutOfMemory → IsTopology topology net → IsRefusedTopology fault topology
-    → ⊥
-not_refused_net topology net net_faults.Json known network none = none network.0 network.1
-not_refused_net topology net net_faults.Unbuilt known network none =
-    let one : network.0 ≡ none.0 = Some-inj (sym network.1.1 ∙ none.1.1) in
-    none.2 net (subst (λ d. IsTopologyOf d net) one network.2)
-not_refused_net topology net net_faults.OutOfMemory known network none = known refl
+-- What is known of topologies: a text stands for one network, and is not refused then.
+pub record Known : Type 0 where
+  pub one : (bytes : List ℕ) (net other : Network) → IsTopology bytes net → IsTopology bytes other
+      → net ≡ other
+  pub apart : (bytes : List ℕ) (net : Network) (cause : NetFault) → IsTopology bytes net
+      → IsRefusedTopology cause bytes → cause ≡ net_faults.OutOfMemory
 
 is_want_policy : (fault : PolicyFault) → fault ≡ faults.OutOfMemory
     → IsWantOfMemory (early.Policy fault)
@@ -59,25 +62,63 @@ is_want_policy fault e = subst (λ f. IsWantOfMemory (early.Policy f)) (sym e) t
 is_want_net : (fault : NetFault) → fault ≡ net_faults.OutOfMemory → IsWantOfMemory (early.Net fault)
 is_want_net fault e = subst (λ f. IsWantOfMemory (early.Net f)) (sym e) tt
 
--- what is refused stands for nothing that is built
-pub IsRefusal-not : (fault : EarlyFault) (policy topology : List ℕ) (net : Network)
-    → IsSupportedText policy → IsTopology topology net → IsRefusal fault policy topology → ⊥
-IsRefusal-not (early.Policy fault) policy topology net is network (known, stops) = not_refused policy is.raw fault (λ e. known (is_want_policy fault e)) is.stands stops
-IsRefusal-not (early.Net fault) policy topology net is network (known, stops) = not_refused_net topology net fault (λ e. known (is_want_net fault e)) network stops.1
-IsRefusal-not early.Unbuilt policy topology net is network (known, stops) = not_other policy is stops
-IsRefusal-not early.OutOfMemory policy topology net is network (known, stops) = known tt
+is_want_check : (fault : CheckFault) → fault ≡ check_faults.OutOfMemory → IsWantOfMemory (early.Check fault)
+is_want_check fault e = subst (λ f. IsWantOfMemory (early.Check f)) (sym e) tt
 
-pub Compiles-done : (form : CompileForm) (p t : List ℕ) (net : Network) → IsSupportedText p
-    → IsTopology t net → (r : CompileReply) → Compiles form p t r → compile_status r ≡ status.Done
-Compiles-done form p t net is network (Refused fault) h = absurd (IsRefusal-not fault p t net is network h)
-Compiles-done form p t net is network (Least compiled) h = refl
+is_want_ends : (fault : EndsFault) (text : List ℕ) → fault ≡ ends_faults.OutOfMemory → IsWantOfMemory (early.Ends fault text)
+is_want_ends fault text e = subst (λ f. IsWantOfMemory (early.Ends f text)) (sym e) tt
 
-pub Compiles-one : (form : CompileForm) (p t : List ℕ) (r s : CompileReply) → Compiles form p t r
-    → Compiles form p t s → compile_status s ≡ compile_status r
-Compiles-one form p t (Refused fault) (Refused other) h k = refl
-Compiles-one form p t (Refused fault) (Least compiled) h k =
-    absurd (IsRefusal-not fault p t compiled.net (record { raw = k.input.raw; stands = k.input.stands; supported = k.input.supported }) k.input.network h)
-Compiles-one form p t (Least compiled) s h k = Compiles-done form p t compiled.net (record { raw = h.input.raw; stands = h.input.stands; supported = h.input.supported }) h.input.network s k
+module _ (known : Known) where
+  -- what is refused is the policy that is built
+  plain_read : (p t : List ℕ) (net : Network) (raw : Policy) → AreCompilable p t net → IsPolicyText p raw → raw ≡ plain_policy
+  plain_read p t net raw is stands = same raw is.raw (one_reading p (Ok raw) (Ok is.raw) stands is.read.stands) ∙ is.built.policy
+
+  -- two texts stand for one policy and one network
+  not_both : (p t : List ℕ) (net : Network) → AreCompilable p t net → AreUnbuilt p t → ⊥
+  not_both p t net is other =
+      let policy : is.raw ≡ other.raw = same is.raw other.raw (one_reading p (Ok is.raw) (Ok other.raw) is.read.stands other.read.stands) in
+      let network : net ≡ other.net = known.one t net other.net is.read.network other.read.network in
+      other.other (subst (λ n. IsCompilable other.raw n) network (subst (λ r. IsCompilable r net) policy is.built))
+
+  -- what is refused stands for nothing that is built
+  pub IsRefusal-not : (fault : EarlyFault) (policy topology : List ℕ) (net : Network)
+      → AreCompilable policy topology net → IsRefusal fault policy topology → ⊥
+  IsRefusal-not (early.Policy fault) policy topology net is (told, stops) = not_refused policy is.raw fault (λ e. told (is_want_policy fault e)) is.read.stands stops
+  IsRefusal-not (early.Net fault) policy topology net is (told, stops) = told (is_want_net fault (known.apart topology net fault is.read.network stops.refused))
+  IsRefusal-not (early.Check fault) policy topology net is (told, stops) =
+      told (is_want_check fault (plain_keeps stops.net (network_symbols stops.net) fault (subst (λ r. BreaksRule stops.net (network_symbols stops.net) r fault) (plain_read policy topology net stops.raw is stops.read.stands) stops.refused)))
+  IsRefusal-not (early.Ends fault text) policy topology net is (told, stops) =
+      told (is_want_ends fault text (plain_ends stops.net fault (subst (λ r. BreaksEnds stops.net (numbered_policy stops.net r) fault) (plain_read policy topology net stops.raw is stops.read.stands) stops.refused.1.0)))
+  IsRefusal-not early.Unbuilt policy topology net is (told, stops) = not_both policy topology net is stops
+  IsRefusal-not early.OutOfMemory policy topology net is (told, stops) = told tt
+
+  pub Compiles-done : (form : CompileForm) (p t : List ℕ) (net : Network) → AreCompilable p t net
+      → (r : CompileReply) → Compiles form p t r → compile_status r ≡ status.Done
+  Compiles-done form p t net is (Refused fault) h = absurd (IsRefusal-not fault p t net is h)
+  Compiles-done form p t net is (Least compiled) h = refl
+
+  built : (p t : List ℕ) (form : CompileForm) (compiled : Compiled) → IsCompiledFrom p t form.objective compiled → AreCompilable p t compiled.net
+  built p t form compiled k = record { raw = k.input.raw; read = k.input.read; built = k.input.built }
+
+  pub Compiles-one : (form : CompileForm) (p t : List ℕ) (r s : CompileReply) → Compiles form p t r
+      → Compiles form p t s → compile_status s ≡ compile_status r
+  Compiles-one form p t (Refused fault) (Refused other) h k = refl
+  Compiles-one form p t (Refused fault) (Least compiled) h k = absurd (IsRefusal-not fault p t compiled.net (built p t form compiled k) h)
+  Compiles-one form p t (Least compiled) s h k = Compiles-done form p t compiled.net (built p t form compiled h) s k
+
+-- what is wrong over the topology, once the policy is read
+
+pub fault_over : (raw : Policy) (p t : List ℕ) → IsPolicyText p raw → (fault : EarlyFault) → IsFaultOver raw t fault → IsEarlyFault fault p t
+fault_over raw p t stands (early.Policy fault) h = absurd h
+fault_over raw p t stands (early.Net fault) h = record { raw = raw; stands = stands; refused = h }
+fault_over raw p t stands (early.Check fault) h = record { raw = raw; net = h.0; read = record { stands = stands; network = h.1 }; refused = h.2 }
+fault_over raw p t stands (early.Ends fault text) h = record { raw = raw; net = h.0; read = record { stands = stands; network = h.1 }; refused = h.2 }
+fault_over raw p t stands early.Unbuilt h = record { raw = raw; net = h.0; read = record { stands = stands; network = h.1 }; accepted = h.2; other = h.3 }
+fault_over raw p t stands early.OutOfMemory h = tt
+
+pub result_over : {X : Type 0} (raw : Policy) (p t : List ℕ) → IsPolicyText p raw → (result : Result X EarlyFault) → IfErr result (IsFaultOver raw t) → IfErr result (λ fault. IsEarlyFault fault p t)
+result_over raw p t stands (Ok x) h = tt
+result_over raw p t stands (Err fault) h = fault_over raw p t stands fault h
 
 -- the same of what the files hold
 
@@ -88,10 +129,10 @@ of_two P contents a b c d e e' h =
     let second : d ≡ b = cc in
     subst (λ x. P x b) first (subst (λ y. P c y) second h)
 
-pub IsCompileReply-one : (form : CompileForm) (contents : List (List ℕ)) (r s : CompileReply)
+pub IsCompileReply-one : Known → (form : CompileForm) (contents : List (List ℕ)) (r s : CompileReply)
     → IsCompileReply form contents r → IsCompileReply form contents s
     → compile_status s ≡ compile_status r
-IsCompileReply-one form contents r s (p, t, e, h) (q, u, e', k) = Compiles-one form p t r s h (of_two (λ x y. Compiles form x y s) contents p t q u e e' k)
+IsCompileReply-one known form contents r s (p, t, e, h) (q, u, e', k) = Compiles-one known form p t r s h (of_two (λ x y. Compiles form x y s) contents p t q u e e' k)
 
 pub IsCompileReply-compiles : (form : CompileForm) (p t : List ℕ) (r : CompileReply)
     → IsCompileReply form (p ∷ t ∷ []) r → Compiles form p t r

@@ -5,6 +5,8 @@ pub mod Printable
 pub mod Lines
 pub mod Unique
 pub mod Outcomes
+pub mod PlainKept
+pub mod Named
 pub mod Compiling
 pub mod Refuting
 pub mod Runs

@@ -1,5 +1,5 @@
 -- The policy that is built, over the numbers of any network.
-use Rattle.std.proofs.Common.{◌≡◌, refl, sym, subst}
+use Rattle.std.proofs.Common.{refl, sym, subst}
 use Rattle.merlin_model.specs.declared.policy.Path.TheVariants as paths
 use Rattle.merlin_model.specs.Networks.{Network}
 use Rattle.policy_grammar.specs.declared.written.RawPath.TheBlock.{hidden-the_row-RawPath-1}

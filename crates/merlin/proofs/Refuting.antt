@@ -1,5 +1,5 @@
 -- What is replied to a program and a tree: what is read, refuses or refutes is one.
-use Rattle.std.proofs.Common.{◌≡◌, ℕ, zero, suc, List, [], ◌∷◌, Option, None, Some, slice_get, refl, sym, ◌∙◌, subst}
+use Rattle.std.proofs.Common.{◌≡◌, ℕ, zero, suc, List, [], ◌∷◌, Option, None, Some, slice_get, refl, subst}
 use Rattle.std.specs.List.{AllByRecursion}
 use Rattle.merlin_base.specs.declared.status.Status.TheVariants as status
 use Rattle.merlin_model.specs.Programs.{Program}

@@ -1,6 +1,7 @@
 pub mod Words
 pub mod Reading
 pub mod Reports
+pub mod Refusals
 pub mod Compiler
 pub mod Compile
 pub mod Refute

@@ -4,8 +4,6 @@ use Rattle.merlin_base.specs.Texts.{joined}
 use Rattle.merlin_base.specs.Outside.{KnownContents, Rose, Grows, GrowsByPrefix}
 use Rattle.merlin_base.specs.declared.status.Status.{Status}
 use Rattle.merlin_base.specs.declared.status.Status.TheVariants as status
-use Rattle.merlin_model.specs.declared.network.FnDecl.{FnDecl}
-use Rattle.merlin_model.specs.Packets.{Packet}
 use Rattle.merlin_model.specs.Functions.{Behaviour}
 use Rattle.config_text.specs.Words.{line}
 use Rattle.merlin.specs.Reading.{AreContents, IsFirstTooLong, RoseIn}
@@ -19,11 +17,6 @@ pub record World : Type 1 where
   pub before : List ℕ → ℕ
   pub after : List ℕ → ℕ
   pub behaviour : Behaviour
-
--- what packet functions do by what a function answers that takes a reference to their declaration
-abbrev pub behaviour_by : {D : Type 0} → (D → Packet → Packet → Type 0) → (D → FnDecl) → Behaviour
-behaviour_by {D} answers decl_of decl packet changed =
-    (d : D) × (decl_of d ≡ decl) × answers d packet changed
 
 -- what became of a sink in a run: the counts of its faults, and the bytes taken, where they are
 -- told

@@ -3,7 +3,8 @@ ghost use Rattle.std.specs.Prelude.{◌≡◌, length, IfOk, IfErr, IfSome, IfNo
 ghost use Rattle.merlin.specs.Words.{word_texts};
 ghost use Rattle.merlin.specs.Reading.{AreContents, IsUnread, texts_read};
 ghost use Rattle.merlin.specs.Commands.{form_of, files_of, IsForm};
-ghost use Rattle.merlin.specs.Outcome.{IsNoForm, behaviour_by};
+ghost use Rattle.packet_trace.specs.Behaviours.{behaviour_by};
+ghost use Rattle.merlin.specs.Outcome.{IsNoForm};
 ghost use Rattle.merlin.specs.Parts.{IsReplyReport};
 
 use crate::compile::{Compile, compile_of, compile_report, files_to_compile};

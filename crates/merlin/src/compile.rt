@@ -235,7 +235,8 @@ pub fn compile_report(
     contents: &[Vec<u8>],
 ) -> Result<Report, OutOfMemory>
     requires { length contents.now ≡ 2 }
-    ensures { let is_reply = IsCompileReply (compile_form command.entry) (texts_read contents.now) in
+    ensures { let is_reply = IsCompileReply (compile_form command.entry)
+        (texts_read contents.now) in
         IfOk result (IsReportWith is_reply compile_lines compile_status) }
 {
     match compile_reply(alloc, command, &contents[0], &contents[1]) {

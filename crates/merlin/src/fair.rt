@@ -30,7 +30,8 @@ pub enum FairReply {
 
 /// The command to divide that the words are, if they are one.
 pub fn fair_of(words: &[String]) -> Option<Fair<'_>>
-    ensures some { IfSome result (λ command. IsFairForm (word_texts words.now) (fair_form command)) }
+    ensures some { IfSome result (λ command.
+        IsFairForm (word_texts words.now) (fair_form command)) }
     ensures none { IfNone result ((form : FairForm) → ¬ IsFairForm (word_texts words.now) form) }
 {
     let [command, demands] = words else {

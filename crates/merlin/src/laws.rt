@@ -7,12 +7,11 @@ ghost use Rattle.merlin_model.specs.Networks.{Network};
 ghost use Rattle.merlin_model.specs.Programs.{Program};
 ghost use Rattle.merlin_model.specs.Trees.{Refutes, root_box};
 ghost use Rattle.merlin_model.specs.declared.certificate.Tree.{Tree};
-ghost use Rattle.topology.specs.Format.{IsTopology};
 ghost use Rattle.merlin.specs.declared.compile.CompileReply.{CompileReply};
 ghost use Rattle.merlin.specs.declared.refute.RefuteReply.{RefuteReply};
 ghost use Rattle.merlin.specs.declared.refute.RefuteReply.TheVariants as refute;
 ghost use Rattle.merlin.specs.Compile.{CompileForm, IsCompileReply, compile_status};
-ghost use Rattle.merlin.specs.Compiler.{IsSupportedText};
+ghost use Rattle.merlin.specs.Compiler.{AreCompilable};
 ghost use Rattle.merlin.specs.Refute.{IsProgramOf, IsTreeOf, IsRefuteReply, refute_status};
 ghost use Rattle.fair_share.specs.declared.share.Share.{Share};
 ghost use Rattle.fair_share.specs.Shares.{Demands, IsSound};
@@ -23,17 +22,20 @@ ghost use Rattle.merlin.specs.declared.fairness.FairnessReply.TheVariants as fai
 ghost use Rattle.merlin.specs.Fair.{IsFairReply, fair_status};
 ghost use Rattle.merlin.specs.Fairness.{AreReadAs, IsFairnessReply, fairness_status};
 
-/// A policy that is built and a topology that stands for a network are done. In any case two replies
-/// to the same files have one status.
+use topology_rules::laws::one_network;
+
+/// A policy and a network that are built are done. In any case two replies to the same files have one
+/// status.
 pub fn compile_replies()
     ensures done { (form : CompileForm) (policy topology : List ℕ) (net : Network)
-        (reply : CompileReply) →
-        IsSupportedText policy → IsTopology topology net →
+        (reply : CompileReply) → AreCompilable policy topology net →
         IsCompileReply form (policy ∷ topology ∷ []) reply → compile_status reply ≡ status.Done }
     ensures one { (form : CompileForm) (contents : List (List ℕ)) (reply other : CompileReply) →
         IsCompileReply form contents reply → IsCompileReply form contents other →
         compile_status other ≡ compile_status reply }
-{}
+{
+    one_network();
+}
 
 /// A tree that refutes the program has the reply `Refuted`, and one that does not has CheckNo. In any
 /// case two replies to the same files have one status.

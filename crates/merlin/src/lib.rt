@@ -1,6 +1,7 @@
 //! The program as one call: from the words of a command over files to lines on a sink.
 #![tactic(auto)]
 
+mod accepting;
 mod commands;
 mod compile;
 mod compiler;
@@ -15,7 +16,7 @@ mod report;
 
 pub use compile::{DEFAULT_BUDGET, MAX_BUDGET};
 pub use compiler::{Compiled, EarlyFault, compile_policy};
-pub use packet_trace::{End, Trace, Visit, trace_plain};
+pub use packet_trace::{End, Trace, Tracer, Visit};
 pub use program::run;
 pub use reading::TEXT_LIMIT;
 pub use refute::TREE_LIMIT;

@@ -1,7 +1,8 @@
 //! A run of the program.
 ghost use Rattle.std.specs.Prelude.{◌≡◌, IfOk};
 ghost use Rattle.merlin.specs.Words.{word_texts};
-ghost use Rattle.merlin.specs.Outcome.{IsOutcome, SaysByStatus, behaviour_by, world_of, taking_of};
+ghost use Rattle.packet_trace.specs.Behaviours.{behaviour_by};
+ghost use Rattle.merlin.specs.Outcome.{IsOutcome, SaysByStatus, world_of, taking_of};
 ghost use Rattle.merlin.specs.Parts.{IsReportTo, EndsByResult};
 ghost use Rattle.merlin.specs.Runs.{KeepsPromises};
 

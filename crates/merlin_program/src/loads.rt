@@ -8,9 +8,10 @@ ghost use Rattle.cutoff_program.specs.Flows.{variables_of, rate_over, cost_of_va
 ghost use Rattle.cutoff_program.specs.Limits.{IsProblem};
 ghost use Rattle.merlin_program.specs.Kept.{loads_by};
 
-use crate::terms::{cost, rate_on};
+use crate::terms::rate_on;
 use cutoff_program::flow::{Problem, Variable};
 use merlin_model::policy::{Objective, Value};
+use program_walks::cost;
 
 /// The load of a link.
 fn load_of(variables: &[Variable], link: usize, point: &[bool]) -> u64

@@ -9,17 +9,18 @@ ghost use Rattle.cutoff_program.specs.Limits.{IsProblem};
 ghost use Rattle.cutoff_program.specs.Trails.{IsNeat};
 ghost use Rattle.cutoff_program.proofs.Forms.{is_program};
 ghost use Rattle.cutoff_program.proofs.Cutoffs.{has_cutoffs};
+ghost use Rattle.program_walks.specs.Solutions.{IsPointOfWalks, AreWalksOfPoint};
 ghost use Rattle.merlin_program.specs.Kept.{kept, variable_at};
 
 use crate::loads::value_of;
 use crate::reading::{entries_at, flow_rows, right_at, upper_at};
 use crate::rooms::is_less;
 use crate::rows::{Rows, all_rows, all_variables};
-use crate::terms::cost;
 use cutoff_program::flow::{Problem, Variable};
 use integer_program::Program;
 use merlin_model::OutOfMemory;
-use merlin_model::policy::Value;
+use merlin_model::policy::{Symbol, Value};
+use program_walks::{cost, point_of_walks, walks_of_point};
 use sqlite_items::Items;
 use std::alloc::Global;
 
@@ -27,23 +28,34 @@ use std::alloc::Global;
 #[derive(Drop)]
 pub struct MerlinProgram {
     problem: Problem,
+    // flow by flow the symbols of the vertices
+    symbols: Items<Items<Symbol>>,
     variables: Items<Variable>,
     rows: Rows,
+    ghost symbols_are: { length symbols ≡ length problem.flows },
     ghost is: { IsProblem problem } by { Prim.hlevel props },
     ghost variables_are: { variables ≡ variables_of problem },
     ghost rows_are: { rows ≡ kept (program_at problem None).rows },
 }
 
 /// The program of a problem: rows of the flows, of the directed links, and the cutoff row.
-pub fn program_of(alloc: Global, problem: Problem) -> Result<MerlinProgram, OutOfMemory>
-    requires { IsProblem problem }
-    ensures { IfOk result (λ program. program.problem ≡ problem) }
+/// With it stand, flow by flow, the symbols of the vertices.
+pub fn program_of(
+    alloc: Global,
+    problem: Problem,
+    symbols: Items<Items<Symbol>>,
+) -> Result<MerlinProgram, OutOfMemory>
+    requires is { IsProblem problem }
+    requires symbols { length symbols ≡ length problem.flows }
+    ensures problem { IfOk result (λ program. program.problem ≡ problem) }
+    ensures symbols { IfOk result (λ program. program.symbols ≡ symbols) }
 {
     cutoff_program::laws::variables_are_small();
     let variables = all_variables(alloc, &problem)?;
     let rows = all_rows(alloc, &problem, variables.as_slice())?;
     Ok(MerlinProgram {
         problem,
+        symbols,
         variables,
         rows,
     })
@@ -58,6 +70,46 @@ impl MerlinProgram {
     {
         cutoff_program::laws::variables_are_small();
         cost(&self.problem, &self.variables.as_slice()[variable])
+    }
+
+    /// The point of walks, one for each guaranteed statement. Of what a walk takes it has a path without a repeated vertex, so that
+    /// where the walks are allowed and feasible it is a solution at each cutoff that their value is below.
+    pub fn solution_of(
+        &self,
+        alloc: Global,
+        walks: &[Items<Symbol>],
+    ) -> Result<Items<bool>, OutOfMemory>
+        requires { length walks.now ≡ length self.now.problem.flows }
+        ensures { IfOk result (IsPointOfWalks self.now.problem self.now.symbols walks.now) }
+    {
+        let variables = self.variables.as_slice();
+        point_of_walks(
+            alloc,
+            &self.problem,
+            self.symbols.as_slice(),
+            variables,
+            walks,
+        )
+    }
+
+    /// The walks of a point, one for each guaranteed statement. Those of a solution are allowed, simple and feasible, and their value
+    /// is at most its own.
+    pub fn assignment_of(
+        &self,
+        alloc: Global,
+        point: &[bool],
+    ) -> Result<Items<Items<Symbol>>, OutOfMemory>
+        requires { length point.now ≡ length (variables_of self.now.problem) }
+        ensures { IfOk result (AreWalksOfPoint self.now.problem self.now.symbols point.now) }
+    {
+        let variables = self.variables.as_slice();
+        walks_of_point(
+            alloc,
+            &self.problem,
+            self.symbols.as_slice(),
+            variables,
+            point,
+        )
     }
 }
 

@@ -1,11 +1,12 @@
 //! What a variable adds to a row.
 
-ghost use Rattle.std.specs.Prelude.{ℕ, ℤ, ◌≡◌, ◌≤◌, ◌<◌, ◌*◌, ◌^◌, pos};
-ghost use Rattle.cutoff_program.specs.Flows.{net_out, rate_over, cost_of_variable, length_of};
+ghost use Rattle.std.specs.Prelude.{ℕ, ℤ, ◌≡◌, ◌≤◌, ◌<◌, ◌^◌, pos};
+ghost use Rattle.cutoff_program.specs.Flows.{net_out, rate_over, length_of};
 ghost use Rattle.merlin_program.specs.Kept.{term_in_row};
 
 use cutoff_program::flow::{Problem, Variable};
 use merlin_model::policy::Objective;
+use program_walks::cost;
 
 /// The kinds of rows: what net_out a vertex of a flow, what is put on a link, and what is added to the length of all walks.
 #[derive(Clone, Copy)]
@@ -39,33 +40,6 @@ pub fn rate_on(link: usize, variable: &Variable) -> u64
     match variable.edge.crosses {
         None => 0,
         Some(l) => { if l == link { variable.rate } else { 0 } }
-    }
-}
-
-/// A rate as often as a weight says.
-fn weighted(rate: u64, weight: u32) -> u64
-    requires { rate ≤ 10 ^ 9 }
-    ensures value { result ≡ rate * weight }
-    ensures small { result < 2 ^ 62 }
-{
-    rate * u64::from(weight)
-}
-
-/// What a variable costs: its rate as often as the weight of the link that it crosses says, else 0.
-pub fn cost(problem: &Problem, variable: &Variable) -> u64
-    requires { variable.now.rate ≤ 10 ^ 9 }
-    ensures value { result ≡ cost_of_variable problem.now variable.now }
-    ensures small { result < 2 ^ 62 }
-{
-    match variable.edge.crosses {
-        None => 0,
-        Some(l) => {
-            if l < problem.links.len() {
-                weighted(variable.rate, problem.links.as_slice()[l].weight)
-            } else {
-                0
-            }
-        }
     }
 }
 

@@ -1,6 +1,6 @@
 pub mod Best
-pub mod Runs
 pub mod LinkedBoth
-pub mod Seen
+pub mod Plain
+pub mod Steps
+pub mod Hops
 pub mod Reading
-pub mod ByFunctions

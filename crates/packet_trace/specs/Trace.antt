@@ -2,7 +2,7 @@
 use Rattle.std.specs.Prelude.{ℕ, ◌≡◌, ◌≤◌, ◌-◌, List, [], map, length}
 use Rattle.merlin_model.specs.declared.config.Config.{Config}
 use Rattle.merlin_model.specs.Networks.{Network}
-use Rattle.merlin_model.specs.Machine.{Frame, Reaches, Runs, RunsWithin}
+use Rattle.merlin_model.specs.Machine.{Frame}
 use Rattle.merlin_model.specs.Functions.{Behaviour, ReachesBy, RunsBy}
 use Rattle.merlin_model.specs.Machine as machine
 use Rattle.packet_trace.specs.declared.trace.TheConstants.{MAX_HOPS}
@@ -39,29 +39,3 @@ IsTraceOf net config behaviour f visits StillRunning =
 
 abbrev pub IsTrace : Network → Config → Behaviour → Frame → Trace → Type 0
 IsTrace net config behaviour f trace = IsTraceOf net config behaviour f trace.visits trace.end
-
--- Where no line of a middlebox acts, whatever functions do, each frame has one run.
-
--- The run from a frame leaves these records and comes to this end within a number of hops, and there is no other run.
-pub record IsOnlyRun (net : Network) (config : Config) (f : Frame) (hops : ℕ)
-    (visits : List machine.Visit) (end : machine.End) : Type 0 where
-  pub run : Runs net config f visits end
-  pub only : RunsWithin net config hops f (λ records last. (records ≡ visits) × (last ≡ end))
-
--- from a frame the machine makes this many hops
-pub record MakesHops (net : Network) (config : Config) (f : Frame) (hops : ℕ) : Type 0 where
-  pub visits : List machine.Visit
-  pub last : Frame
-  pub reaches : Reaches net config f visits last
-  pub many : length visits ≡ hops
-
--- The visits and the end are those of the only run, or each of the first steps, as many as the limit, is a hop, and no visit is told.
-abbrev pub IsOnlyTraceOf : Network → Config → Frame → List Visit → End → Type 0
-IsOnlyTraceOf net config f visits (Delivered host packet) =
-    IsOnlyRun net config f (MAX_HOPS - 1) (map record_of visits) (machine.Delivered host packet)
-IsOnlyTraceOf net config f visits (Dropped loc) =
-    IsOnlyRun net config f (MAX_HOPS - 1) (map record_of visits) (machine.Dropped loc)
-IsOnlyTraceOf net config f visits StillRunning = (visits ≡ []) × MakesHops net config f MAX_HOPS
-
-abbrev pub IsOnlyTrace : Network → Config → Frame → Trace → Type 0
-IsOnlyTrace net config f trace = IsOnlyTraceOf net config f trace.visits trace.end

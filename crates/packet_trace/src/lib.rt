@@ -4,8 +4,14 @@
 mod fitting;
 mod frame;
 mod hosts;
-mod step;
+mod moves;
+mod processes;
+mod rewrites;
 mod trace;
+mod tracer;
 
 pub use fitting::fitting_rule;
-pub use trace::{End, MAX_HOPS, Trace, Visit, trace_plain};
+pub use processes::fitting_process;
+pub use rewrites::declared;
+pub use trace::{End, MAX_HOPS, Trace, Visit};
+pub use tracer::{Next, Tracer};

@@ -1,18 +1,16 @@
 -- A policy put together from its lists, and its lists again.
-use Rattle.std.proofs.Common.{◌≡◌, ◌<◌, ◌+◌, ◌⊎◌, inl, inr, ℕ, zero, suc, List, [], ◌∷◌, ◌++◌, length, map, Option, None, Some, slice_get, refl, sym, ◌∙◌, ap, subst, arith}
+use Rattle.std.proofs.Common.{◌≡◌, ◌⊎◌, inl, inr, ℕ, zero, suc, List, [], ◌∷◌, ◌++◌, length, map, Option, None, Some, slice_get, refl, ◌∙◌, ap, arith}
 use Rattle.std.specs.Option.{option_map, option_to_list}
 use Rattle.std.proofs.lemmas.List.{map-append}
 use Rattle.merlin_model.specs.declared.policy.Path.{Path}
 use Rattle.merlin_model.specs.declared.policy.Pred.{Pred}
 use Rattle.merlin_model.specs.declared.policy.Term.{Term}
 use Rattle.merlin_model.specs.Networks.{Network}
-use Rattle.merlin_model.specs.Policies.{Policy, Statement, paths_of}
-use Rattle.rate_formula.specs.Usage.{ids_in}
 use Rattle.policy_grammar.specs.NumberedPaths.{numbered}
 use Rattle.policy_grammar.specs.declared.written.RawPath.{RawPath}
 use Rattle.policy_expansion.specs.declared.policy.Statement.{Statement as NamedStatement}
 use Rattle.policy_expansion.specs.declared.policy.Policy.{Policy as NamedPolicy}
-use Rattle.policy_names.specs.Names.{meaning_of, raw_paths}
+use Rattle.policy_names.specs.Names.{meaning_of}
 use Rattle.policy_check.specs.Numbered.{numbered_statement, numbered_policy}
 use Rattle.policy_check.specs.Rules.{listed_ids, listed_preds, numbered_paths_of}
 use Rattle.policy_check.specs.Kept.{statements_from}

@@ -1,5 +1,5 @@
 -- Paths of one normal form have one automaton, and an automaton for each path stays so as paths are added.
-use Rattle.std.proofs.Common.{◌≡◌, ◌+◌, ◌<◌, ◌≤◌, ℕ, zero, suc, Bool, true, false, List, [], ◌∷◌, ◌++◌, length, take, get_or, position, IfOk, OnOk, Option, None, Some, Result, Ok, Err, slice_get, refl, sym, ◌∙◌, ap, subst, arith}
+use Rattle.std.proofs.Common.{◌≡◌, ◌<◌, ℕ, zero, suc, true, List, [], ◌∷◌, ◌++◌, length, take, get_or, position, IfOk, OnOk, Some, Result, Ok, Err, slice_get, refl, sym, ◌∙◌, ap, subst}
 use Rattle.std.specs.List.{AllByRecursion, AllZip, flat_map}
 use Rattle.std.specs.Ordering.{is_eq}
 use Rattle.std.specs.declared.cmp.Ordering.{Ordering}
@@ -16,7 +16,7 @@ use Rattle.path_regex.specs.Languages.{TakesSameWords}
 use Rattle.path_regex.proofs.Ascending.{equal-same}
 use Rattle.path_regex.proofs.Normality.{normal_form}
 use Rattle.path_automaton.specs.States.{IsMadeOf, AreStates, HasStates, with_all_new, followers}
-use Rattle.path_automaton.specs.Automata.{AutomatonTables, AcceptsWordsOf, AreTablesOfPath}
+use Rattle.path_automaton.specs.Automata.{AutomatonTables, AreTablesOfPath}
 use Rattle.path_automaton.specs.Built.{IsBuilt}
 use Rattle.path_automaton.specs.declared.fault.AutomatonFault.{AutomatonFault}
 use Rattle.path_automaton.specs.declared.fault.AutomatonFault.TheVariants.{TooManyStates, OutOfMemory}

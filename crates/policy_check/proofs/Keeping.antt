@@ -1,5 +1,5 @@
 -- What is put together of a policy that keeps all rules.
-use Rattle.std.proofs.Common.{◌≡◌, ◌<◌, ◌≤◌, ◌+◌, ◌⊎◌, inl, inr, ℕ, zero, suc, List, [], ◌∷◌, ◌++◌, length, map, Option, None, Some, Ok, slice_get, refl, sym, ◌∙◌, ap, subst, arith}
+use Rattle.std.proofs.Common.{◌≡◌, ◌<◌, ◌⊎◌, inl, inr, ℕ, zero, suc, List, [], ◌∷◌, ◌++◌, length, map, Option, None, Some, slice_get, refl, sym, ◌∙◌, ap, subst, arith}
 use Rattle.std.specs.Prelude.{option_and_then}
 use Rattle.std.specs.List.{AllByRecursion, AllZip}
 use Rattle.std.specs.Option.{option_map, option_to_list}
@@ -28,7 +28,7 @@ use Rattle.policy_check.specs.declared.automata.Automata.{Automata}
 use Rattle.policy_check.specs.declared.checking.Judged.{Judged}
 use Rattle.policy_check.specs.declared.checked.Checked.TheInside.{Inside}
 use Rattle.policy_check.specs.Numbered.{numbered_policy}
-use Rattle.policy_check.specs.Rules.{listed_ids, HasMeanings, HasFewStates, numbered_paths_of}
+use Rattle.policy_check.specs.Rules.{HasMeanings, HasFewStates, numbered_paths_of}
 use Rattle.policy_check.specs.Parts.{IsJudged}
 use Rattle.policy_check.specs.Sharing.{IsTableOf, ShareAutomata}
 use Rattle.policy_check.specs.Checked.{IsSoundPolicy, IsAutomatonOfPath, IsCheckOf, automaton_of_statement}

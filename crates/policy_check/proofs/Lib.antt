@@ -4,3 +4,6 @@ pub mod Forms
 pub mod Assembled
 pub mod Sound
 pub mod Keeping
+pub mod Destinations
+pub mod Guaranteed
+pub mod Matched

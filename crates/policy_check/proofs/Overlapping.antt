@@ -1,5 +1,5 @@
 -- Places of overlaps, and the ids of the statements there.
-use Rattle.std.proofs.Common.{◌≡◌, ◌<◌, ◌≤◌, ℕ, List, [], length, map, get_or, slice_get, Option, None, Some, IfNone, refl, sym, ◌∙◌, ap, subst, arith}
+use Rattle.std.proofs.Common.{◌≡◌, ◌<◌, ◌≤◌, ℕ, List, [], length, slice_get, Option, None, Some, IfNone, sym, ◌∙◌, ap, subst, arith}
 use Rattle.predicate_split.specs.Refusals.{classes_in}
 use Rattle.predicate_split.specs.declared.fault.TheConstants.{MAX_CLASSES}
 use Rattle.std.specs.List.{slice_index_or}

@@ -1,5 +1,5 @@
 -- A policy that keeps all rules is sound.
-use Rattle.std.proofs.Common.{◌≡◌, ◌≢◌, ◌<◌, ◌≤◌, ◌+◌, ◌⊎◌, ◌||◌, ◌&&◌, inl, inr, ℕ, zero, suc, Bool, true, false, not, cond, ltb, List, [], ◌∷◌, ◌++◌, length, map, Contains, Option, None, Some, slice_get, sum_by, refl, sym, ◌∙◌, ap, subst, arith}
+use Rattle.std.proofs.Common.{◌≡◌, ◌<◌, ◌+◌, ◌⊎◌, ◌||◌, ◌&&◌, inl, inr, ℕ, zero, suc, Bool, true, false, cond, ltb, List, [], ◌∷◌, ◌++◌, length, map, Contains, Option, None, Some, slice_get, sum_by, refl, sym, ◌∙◌, ap, subst, arith}
 use Rattle.std.specs.List.{AllByRecursion, list_any}
 use Rattle.std.specs.Option.{option_map, option_to_list}
 use Rattle.std.specs.Prelude.{bytes_eq}
@@ -7,17 +7,16 @@ use Rattle.std.proofs.lemmas.Slice.Eq.{bytes_eq-Decides}
 use Rattle.std.proofs.lemmas.Bool.{ltb-false}
 use Rattle.std.proofs.lemmas.Bool.Decides.{Decides-ltb}
 use Rattle.merlin_model.specs.declared.policy.Path.{Path}
-use Rattle.merlin_model.specs.declared.policy.Pred.{Pred}
 use Rattle.merlin_model.specs.declared.policy.Term.{Term}
-use Rattle.merlin_model.specs.Packets.{Packet, IsPacket}
+use Rattle.merlin_model.specs.Packets.{Packet}
 use Rattle.merlin_model.specs.Networks.{Network, AreDifferent}
 use Rattle.merlin_model.specs.Predicates.{holds, IsPred}
-use Rattle.merlin_model.specs.Policies.{Policy, Statement, AreDisjoint, IsTotal, match_among, paths_of}
-use Rattle.merlin_model.specs.Rates.{is_max, ids_of, constant_of_part, HasRoomForGuarantees}
+use Rattle.merlin_model.specs.Policies.{Policy, Statement, AreDisjoint, IsTotal, match_among}
+use Rattle.merlin_model.specs.Rates.{ids_of, constant_of_part, HasRoomForGuarantees}
 use Rattle.merlin_model.proofs.Members.{In as Is, in_to}
 use Rattle.rate_formula.specs.Usage.{ids_in}
 use Rattle.localise.specs.Faults.{is_among, repeats_in, has_large_constants, faults}
-use Rattle.localise.proofs.Clear.{In, all_from, all_at, IsClear, clear_from, known_in}
+use Rattle.localise.proofs.Clear.{all_from, clear_from, known_in}
 use Rattle.localise.proofs.Repeated.{differ}
 use Rattle.predicate_split.specs.Least.{NoneHolds}
 use Rattle.predicate_split.specs.Overlaps.{ShareNothing}

@@ -1,16 +1,15 @@
 -- A policy that was checked, with its automata, and what is so of it.
-use Rattle.std.specs.Prelude.{ℕ, ◌≡◌, ◌≤◌, ◌<◌, List, length, true, Contains, Option, Ok, Some, slice_get, option_and_then, sum_by}
+use Rattle.std.specs.Prelude.{ℕ, ◌↔◌, ◌≡◌, ◌≤◌, List, true, Contains, Option, Ok, Some, slice_get, option_and_then, sum_by}
 use Rattle.std.specs.List.{AllByRecursion}
 use Rattle.merlin_model.specs.declared.policy.Path.{Path}
 use Rattle.merlin_model.specs.declared.policy.Symbol.{Symbol}
 use Rattle.merlin_model.specs.declared.policy.Term.{Term}
 use Rattle.merlin_model.specs.Networks.{Network, AreDifferent}
 use Rattle.merlin_model.specs.Predicates.{IsPred}
-use Rattle.merlin_model.specs.Policies.{Policy, AreDisjoint, IsTotal, paths_of}
+use Rattle.merlin_model.specs.Policies.{Policy, AreDisjoint, IsTotal, IsOnPath, paths_of}
 use Rattle.merlin_model.specs.Rates.{is_max, ids_of, constant_of_part, HasRoomForGuarantees}
 use Rattle.rate_formula.specs.Usage.{ids_in}
-use Rattle.localise.specs.Faults.{faults}
-use Rattle.path_automaton.specs.Automata.{AutomatonTables, AcceptsWordsOf}
+use Rattle.path_automaton.specs.Automata.{AutomatonTables, AcceptsWordsOf, Spells, accepts, state_after_numbers}
 use Rattle.path_automaton.specs.Built.{IsBuilt}
 use Rattle.policy_expansion.specs.declared.policy.Policy.{Policy as NamedPolicy}
 use Rattle.policy_check.specs.Numbered.{numbered_policy}
@@ -49,9 +48,19 @@ pub record IsAutomatonOfPath (symbols : List Symbol) (path : Path) (table : Auto
   pub built : IsBuilt path symbols (Ok table)
   pub words : AcceptsWordsOf symbols path table
 
+-- for each path its automaton
+abbrev pub HasAutomata : List Symbol → CheckedPolicy → Type 0
+HasAutomata symbols checked =
+    (i : ℕ) (path : Path) → slice_get (paths_of checked.policy) i ≡ Some path →
+    (table : AutomatonTables) × (automaton_of_statement checked i ≡ Some table) × IsAutomatonOfPath symbols path table
+
+-- the automaton accepts a word exactly where the word is on the path of the statement
+abbrev pub AcceptsPathOf : List Symbol → Policy → ℕ → AutomatonTables → Type 0
+AcceptsPathOf symbols policy i table =
+    (ks : List ℕ) (w : List Symbol) → Spells symbols ks w → (accepts table (state_after_numbers table 0 ks) ≡ true) ↔ IsOnPath policy i w
+
 -- What is answered for a policy that keeps all rules: the same over the numbers of the network, and for each path its automaton.
 pub record IsCheckOf (net : Network) (symbols : List Symbol) (raw : NamedPolicy) (checked : CheckedPolicy) : Type 0 where
   pub rules : KeepsAllRules net symbols raw
   pub policy : checked.policy ≡ numbered_policy net raw
-  pub automata : (i : ℕ) (path : Path) → slice_get (paths_of checked.policy) i ≡ Some path →
-      (table : AutomatonTables) × (automaton_of_statement checked i ≡ Some table) × IsAutomatonOfPath symbols path table
+  pub automata : HasAutomata symbols checked

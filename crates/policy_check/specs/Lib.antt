@@ -5,3 +5,5 @@ pub mod Parts
 pub mod Sharing
 pub mod Checked
 pub mod Kept
+pub mod Traffic
+pub mod Ends

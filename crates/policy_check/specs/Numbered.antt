@@ -1,5 +1,5 @@
 -- The policy over the numbers of a network that a policy over its names stands for.
-use Rattle.std.specs.Prelude.{List, map}
+use Rattle.std.specs.Prelude.{map}
 use Rattle.std.specs.Option.{option_map}
 use Rattle.merlin_model.specs.Networks.{Network}
 use Rattle.merlin_model.specs.Policies.{Policy as NumberedPolicy, Statement as NumberedStatement}

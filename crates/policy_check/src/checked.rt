@@ -61,6 +61,13 @@ impl Checked {
         name_at(self.listing.ids.as_slice(), statement)
     }
 
+    // The ids of the statements, in their order.
+    pub(crate) fn ids(&self) -> &[Name]
+        ensures { result.now ≡ ids_in self.now.policy }
+    {
+        self.listing.ids.as_slice()
+    }
+
     /// The predicates of the statements, in their order.
     pub fn preds(&self) -> &[Pred]
         ensures { result.now ≡ map (λ s. s.pred) self.now.policy.statements }

@@ -5,6 +5,7 @@ ghost use Rattle.std.specs.List.{AllByRecursion};
 ghost use Rattle.merlin_model.specs.Predicates.{IsPred};
 ghost use Rattle.localise.specs.Localised.{localised};
 ghost use Rattle.policy_expansion.specs.Kept.{IsExpanded, IsWellFormed};
+ghost use Rattle.topology.specs.Symbols.{network_symbols};
 ghost use Rattle.policy_check.specs.Checked.{IsCheckOf};
 ghost use Rattle.policy_check.specs.Rules.{listed_preds, BreaksRule};
 ghost use Rattle.policy_check.specs.Parts.{IsJudged, BreaksPredicatesOrRates};
@@ -38,10 +39,8 @@ fn judge(alloc: Global, policy: &Policy) -> Result<Judged, CheckFault>
     Ok(Judged { listing, rates })
 }
 
-/// The policy over the numbers of the topology, if it keeps all rules: names are known, and no function stands under a `!`; the predicates are
-/// within the limit of classes, hold of no packet in common, and with the default of each; the formula gives rates; and the paths are within the
-/// limit of states over the symbols of the topology. Otherwise the first rule that is broken.
-pub fn check(
+// The same over these symbols.
+fn check_over(
     alloc: Global,
     policy: &Policy,
     net: &Topology,
@@ -70,4 +69,19 @@ pub fn check(
         rates: judged.rates,
         automata,
     })
+}
+
+/// The policy over the numbers of the topology, if it keeps all rules: names are known, and no function stands under a `!`; the predicates are
+/// within the limit of classes, hold of no packet in common, and with the default of each; the formula gives rates; and the paths are within the
+/// limit of states over the symbols of the topology.
+///
+/// # Errors
+/// The first rule that is broken.
+pub fn check(alloc: Global, policy: &Policy, net: &Topology) -> Result<Checked, CheckFault>
+    requires expanded { IsExpanded policy.now }
+    requires formed { IsWellFormed policy.now }
+    ensures ok { IfOk result (IsCheckOf net.now (network_symbols net.now) policy.now) }
+    ensures err { IfErr result (BreaksRule net.now (network_symbols net.now) policy.now) }
+{
+    check_over(alloc, policy, net, net.symbols())
 }

@@ -3,6 +3,7 @@
 ghost use Rattle.std.specs.Prelude.{◌≡◌};
 ghost use Rattle.policy_check.specs.Conversions.{from_names, from_split, from_rates};
 ghost use Rattle.policy_check.specs.declared.fault.CheckFault.TheVariants as fault;
+ghost use Rattle.policy_check.specs.declared.fault.EndsFault.TheVariants as ends_fault;
 
 use localise::RateFault;
 use merlin_model::{Name, OutOfMemory as NoMemory};
@@ -102,5 +103,41 @@ impl From<NoMemory> for CheckFault {
 
     fn from(_: NoMemory) -> Self {
         CheckFault::OutOfMemory
+    }
+}
+
+/// Why the guaranteed statements of a policy have no ends.
+#[derive(Drop)]
+pub enum EndsFault {
+    /// More statements are guaranteed than may be. The count is one past the limit.
+    TooManyGuarantees {
+        count: u64,
+    },
+    /// No two hosts have traffic of the guaranteed statement.
+    NoEnds {
+        id: Name,
+    },
+    /// More than one pair of hosts has traffic of the guaranteed statement. These are the first two, by the numbers of their locations.
+    ManyEnds {
+        id: Name,
+        first: (usize, usize),
+        second: (usize, usize),
+    },
+    OutOfMemory,
+}
+
+impl From<NoMemory> for EndsFault {
+    ghost from_gives = { λ _ gives. gives ≡ ends_fault.OutOfMemory };
+
+    fn from(_: NoMemory) -> Self {
+        EndsFault::OutOfMemory
+    }
+}
+
+impl<T: Drop> From<AllocFailed<T>> for EndsFault {
+    ghost from_gives = { λ _ gives. gives ≡ ends_fault.OutOfMemory };
+
+    fn from(_: AllocFailed<T>) -> Self {
+        EndsFault::OutOfMemory
     }
 }

@@ -113,6 +113,32 @@ some-stands f left proto v a i e = let m = in_map Some (ports_under f left proto
         let same : n ≡ v = eq_true n v (sym (ap (λ o. allows o v) is) ∙ e) in
         (subst (λ k. In k (ports_under f left proto)) same j, inl (sym same ∙ sym (ap (value_of (ports_under f left proto)) is)))
 
+-- What a cell names of a value: the value itself where it is one of these, and else a star.
+abbrev pub Names : List ℕ → ℕ → Option ℕ → Type 0
+Names ns v a = (In v ns × (a ≡ Some v)) ⊎ ((¬ In v ns) × (a ≡ None))
+
+some-names : (limit v : ℕ) (ns : List ℕ) (a : Option ℕ) → In a (choices true limit ns) → allows a v ≡ true → Names ns v a
+some-names limit v ns a i e = let m = in_map Some ns a i in by m.0 m.1 m.2
+  where
+    by : (n : ℕ) → In n ns → a ≡ Some n → Names ns v a
+    by n j is =
+        let same : n ≡ v = eq_true n v (sym (ap (λ o. allows o v) is) ∙ e) in
+        inl (subst (λ k. In k ns) same j, is ∙ ap Some same)
+
+none-names : (limit v : ℕ) (ns : List ℕ) (a : Option ℕ) → In a (choices false limit ns) → (¬ In v ns) → Names ns v a
+none-names limit v ns a i out = inr (out, star-is limit ns a i)
+
+-- The cell names what is mentioned of the packet: its protocol and then its ports, or nothing.
+abbrev pub NamesParts : List Pred → Packet → Cell → Type 0
+NamesParts left p c =
+    (In p.proto (protos left) × (c.proto ≡ Some p.proto) × Names (ports_under Sport left p.proto) p.sport c.sport × Names (ports_under Dport left p.proto) p.dport c.dport)
+    ⊎ ((¬ In p.proto (protos left)) × (c.proto ≡ None) × (c.sport ≡ None) × (c.dport ≡ None))
+
+-- the packet's own cell
+pub record IsOwn (src dst : HostAddress) (preds : List Pred) (p : Packet) (c : Cell) : Type 0 where
+  pub parts : NamesParts (between_hosts src dst preds) p c
+  pub made : c ≡ cell_of preds (between_hosts src dst preds) src dst c.proto c.sport c.dport
+
 module _ (src dst : HostAddress) (preds : List Pred) (well : AllByRecursion IsPred preds) (p : Packet) (packet : IsPacket p) (at : GoesBetween src dst p) where
   abbrev left : List Pred
   left = between_hosts src dst preds
@@ -303,7 +329,70 @@ module _ (src dst : HostAddress) (preds : List Pred) (well : AllByRecursion IsPr
       (λ none3. find_in (cell_matches p) L4 L5 Right (right4 none1 none2 none3)
       (λ none4 c e. right5 none1 none2 none3 none4 c (found_in (cell_matches p) L5 c e)))))
 
-  exists : (c : Cell) × (find (cell_matches p) (all_cells preds left src dst) ≡ Some c)
+  -- Each list that has the first cell that fits has the packet's own.
+
+  port-own : (proto : ℕ) (a b : Option ℕ) → proto ≡ p.proto → In proto (protos left) → Names (S proto) p.sport a → Names (D proto) p.dport b → IsOwn src dst preds p (cell proto a b)
+  port-own proto a b same named s d = record {
+    parts = inl (subst (λ m. In m (protos left)) same named, ap Some same, subst (λ m. Names (S m) p.sport a) same s, subst (λ m. Names (D m) p.dport b) same d);
+    made = refl;
+  }
+
+  abbrev Own : Cell → Type 0
+  Own c = IsOwn src dst preds p c
+
+  own1 : (c : Cell) → In c L1 → cell_matches p c ≡ true → Own c
+  own1 c i e =
+      let k = from_list c true true i in
+      let f : cell_matches p (cell k.proto k.a k.b) ≡ true = subst (λ d. cell_matches p d ≡ true) k.is e in
+      subst Own (sym k.is) (port-own k.proto k.a k.b (fits-proto k.proto k.a k.b f) k.named
+      (some-names (2 ^ 16) p.sport (S k.proto) k.a k.from (fits-sport k.proto k.a k.b f)) (some-names (2 ^ 16) p.dport (D k.proto) k.b k.to (fits-dport k.proto k.a k.b f)))
+
+  own2 : NoneFits (cell_matches p) L1 → (c : Cell) → In c L2 → cell_matches p c ≡ true → Own c
+  own2 none1 c i e =
+      let k = from_list c true false i in
+      let f : cell_matches p (cell k.proto k.a k.b) ≡ true = subst (λ d. cell_matches p d ≡ true) k.is e in
+      let same : k.proto ≡ p.proto = fits-proto k.proto k.a k.b f in
+      let s = some-stands Sport left k.proto p.sport k.a k.from (fits-sport k.proto k.a k.b f) in
+      let out : ¬ In p.dport (D k.proto) = λ d. true_false (sym fit1 ∙ none1 _ (has1 (subst (λ n. In n (protos left)) same k.named) (subst (λ n. In p.sport (S n)) same s.0) (subst (λ n. In p.dport (D n)) same d))) in
+      subst Own (sym k.is) (port-own k.proto k.a k.b same k.named
+      (some-names (2 ^ 16) p.sport (S k.proto) k.a k.from (fits-sport k.proto k.a k.b f)) (none-names (2 ^ 16) p.dport (D k.proto) k.b k.to out))
+
+  own3 : NoneFits (cell_matches p) L1 → (c : Cell) → In c L3 → cell_matches p c ≡ true → Own c
+  own3 none1 c i e =
+      let k = from_list c false true i in
+      let f : cell_matches p (cell k.proto k.a k.b) ≡ true = subst (λ d. cell_matches p d ≡ true) k.is e in
+      let same : k.proto ≡ p.proto = fits-proto k.proto k.a k.b f in
+      let d = some-stands Dport left k.proto p.dport k.b k.to (fits-dport k.proto k.a k.b f) in
+      let out : ¬ In p.sport (S k.proto) = λ s. true_false (sym fit1 ∙ none1 _ (has1 (subst (λ n. In n (protos left)) same k.named) (subst (λ n. In p.sport (S n)) same s) (subst (λ n. In p.dport (D n)) same d.0))) in
+      subst Own (sym k.is) (port-own k.proto k.a k.b same k.named
+      (none-names (2 ^ 16) p.sport (S k.proto) k.a k.from out) (some-names (2 ^ 16) p.dport (D k.proto) k.b k.to (fits-dport k.proto k.a k.b f)))
+
+  own4 : NoneFits (cell_matches p) L1 → NoneFits (cell_matches p) L2 → NoneFits (cell_matches p) L3 → (c : Cell) → In c L4 → cell_matches p c ≡ true → Own c
+  own4 none1 none2 none3 c i e =
+      let k = from_list c false false i in
+      let f : cell_matches p (cell k.proto k.a k.b) ≡ true = subst (λ d. cell_matches p d ≡ true) k.is e in
+      let same : k.proto ≡ p.proto = fits-proto k.proto k.a k.b f in
+      let here : In p.proto (protos left) = subst (λ m. In m (protos left)) same k.named in
+      let out_s : ¬ In p.sport (S p.proto) = nobody none1 none2 here in
+      let out_d : ¬ In p.dport (D p.proto) = λ d. true_false (sym fit3 ∙ none3 _ (has3 here out_s d)) in
+      subst Own (sym k.is) (port-own k.proto k.a k.b same k.named
+      (none-names (2 ^ 16) p.sport (S k.proto) k.a k.from (subst (λ m. ¬ In p.sport (S m)) (sym same) out_s))
+      (none-names (2 ^ 16) p.dport (D k.proto) k.b k.to (subst (λ m. ¬ In p.dport (D m)) (sym same) out_d)))
+
+  own5 : NoneFits (cell_matches p) L1 → NoneFits (cell_matches p) L2 → NoneFits (cell_matches p) L3 → NoneFits (cell_matches p) L4 → (c : Cell) → In c L5 → Own c
+  own5 none1 none2 none3 none4 c i =
+      let m = in_map last_cell (choices false (2 ^ 8) (protos left)) c i in
+      subst Own (sym (m.2 ∙ ap last_cell (star-is (2 ^ 8) (protos left) m.0 m.1))) (record { parts = inr (some_fits none1 none2 none3 none4, refl, refl, refl); made = refl })
+
+  pub found-own : (c : Cell) → find (cell_matches p) (all_cells preds left src dst) ≡ Some c → Own c
+  found-own =
+      find_in (cell_matches p) L1 (L2 ++ (L3 ++ (L4 ++ L5))) Own own1
+      (λ none1. find_in (cell_matches p) L2 (L3 ++ (L4 ++ L5)) Own (own2 none1)
+      (λ none2. find_in (cell_matches p) L3 (L4 ++ L5) Own (own3 none1)
+      (λ none3. find_in (cell_matches p) L4 L5 Own (own4 none1 none2 none3)
+      (λ none4 c e. own5 none1 none2 none3 none4 c (found_in (cell_matches p) L5 c e)))))
+
+  pub exists : (c : Cell) × (find (cell_matches p) (all_cells preds left src dst) ≡ Some c)
   exists = by (decide_in p.proto (protos left))
     where
       here : (c : Cell) → In c (L1 ++ (L2 ++ (L3 ++ (L4 ++ L5)))) → cell_matches p c ≡ true → (d : Cell) × (find (cell_matches p) (all_cells preds left src dst) ≡ Some d)

@@ -16,6 +16,9 @@ pub mod Shared
 pub mod Represented
 pub mod Owners
 pub mod FirstCells
+pub mod OwnPackets
 pub mod Lefts
+pub mod Stretching
 pub mod CellCounts
 pub mod CellLists
+pub mod Meeting

@@ -1,5 +1,5 @@
 -- The cells of a pair of hosts: what a first switch matches on of the packets between them, and which predicate owns them.
-use Rattle.std.specs.Prelude.{ℕ, suc, ◌≡◌, ◌<◌, ◌+◌, ◌==◌, ◌&&◌, ◌^◌, ⊤, nat_lt, Bool, true, false, List, [], ◌∷◌, ◌++◌, map, length, Option, None, Some, if◌then◌else◌}
+use Rattle.std.specs.Prelude.{ℕ, suc, ◌≡◌, ◌<◌, ◌+◌, ◌==◌, ◌&&◌, ◌^◌, ⊤, nat_lt, Bool, true, false, List, [], ◌∷◌, ◌++◌, map, length, find, Option, None, Some, if◌then◌else◌}
 use Rattle.std.specs.List.{flat_map}
 use Rattle.merlin_model.specs.declared.policy.Field.{Field}
 use Rattle.merlin_model.specs.declared.policy.Field.TheVariants.{EthSrc, EthDst, IpSrc, IpDst, Proto, Sport, Dport}
@@ -7,7 +7,7 @@ use Rattle.merlin_model.specs.declared.policy.Pred.{Pred}
 use Rattle.merlin_model.specs.declared.network.HostAddress.{HostAddress}
 use Rattle.merlin_model.specs.Packets.{Packet}
 use Rattle.merlin_model.specs.Predicates.{holds}
-use Rattle.packet_model.specs.Fields.{has_ports}
+use Rattle.packet_model.specs.Fields.{has_ports, IsBetween}
 use Rattle.predicate_logic.specs.Residues.{residues}
 use Rattle.predicate_logic.specs.Mentions.{mentions, ascending}
 use Rattle.predicate_split.specs.declared.pair_cells.Cell.{Cell}
@@ -55,6 +55,9 @@ packet_of_cell left src dst None sport dport = packet_between src dst (least_fro
 packet_of_cell left src dst (Some proto) sport dport =
     packet_between src dst proto (value_of (ports_under Sport left proto) sport) (value_of (ports_under Dport left proto) dport)
 
+abbrev pub own_packet : List Pred → HostAddress → HostAddress → Cell → Packet
+own_packet preds src dst c = packet_of_cell (between_hosts src dst preds) src dst c.proto c.sport c.dport
+
 -- each of these values, or a star where some value below the limit is not among them
 abbrev pub choices : Bool → ℕ → List ℕ → List (Option ℕ)
 choices true limit named = map Some named
@@ -82,6 +85,10 @@ module _ (preds left : List Pred) (src dst : HostAddress) where
 -- the cells of a pair of hosts, in order
 abbrev pub cells_between : List Pred → HostAddress → HostAddress → List Cell
 cells_between preds src dst = all_cells preds (between_hosts src dst preds) src dst
+
+-- The packet goes between the hosts, and this is the first of their cells that fits it.
+abbrev pub FitsFirst : List Pred → HostAddress → HostAddress → Cell → Packet → Type 0
+FitsFirst preds src dst c p = IsBetween p src dst × (find (cell_matches p) (cells_between preds src dst) ≡ Some c)
 
 -- Why `cells` refuses: more cells than there may be, counted up to one past the limit, or want of memory.
 abbrev pub RefusesCells : List Pred → HostAddress → HostAddress → SplitFault → Type 0

@@ -1,3 +1,4 @@
+pub mod Between
 pub mod Parts
 pub mod Classes
 pub mod Least
@@ -7,3 +8,4 @@ pub mod Overlaps
 pub mod Left
 pub mod Cells
 pub mod Grids
+pub mod Stretches

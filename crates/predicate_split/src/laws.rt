@@ -5,13 +5,14 @@ ghost use Rattle.std.specs.List.{AllByRecursion, flat_map};
 ghost use Rattle.merlin_model.specs.declared.policy.Field.{Field};
 ghost use Rattle.merlin_model.specs.declared.policy.Pred.{Pred};
 ghost use Rattle.merlin_model.specs.declared.network.HostAddress.{HostAddress};
-ghost use Rattle.merlin_model.specs.Packets.{Packet, IsPacket, ComesBefore};
+ghost use Rattle.predicate_split.specs.declared.pair_cells.Cell.{Cell};
+ghost use Rattle.merlin_model.specs.Packets.{Packet, IsPacket, ComesBefore, IsLeastPacket};
 ghost use Rattle.merlin_model.specs.Predicates.{holds, IsPred};
 ghost use Rattle.predicate_logic.specs.Mentions.{mentions, prefixes, ascending};
 ghost use Rattle.predicate_split.specs.Parts.{bits_of, has_field, AreParts, field_parts};
 ghost use Rattle.predicate_split.specs.Classes.{classes_of};
 ghost use Rattle.packet_model.specs.Fields.{IsBetween};
-ghost use Rattle.predicate_split.specs.Cells.{cell_matches, owner_from, cells_between};
+ghost use Rattle.predicate_split.specs.Cells.{cell_matches, owner_from, cells_between, own_packet, FitsFirst};
 ghost use Rattle.predicate_split.specs.Refusals.{classes_in};
 
 /// A field is split into all values that stand for their parts: those that are mentioned, and of all others the least in the same blocks.
@@ -48,4 +49,11 @@ pub fn cells_judge_alike()
         IsBetween q src dst → find (cell_matches p) (cells_between preds src dst) ≡
         find (cell_matches q) (cells_between preds src dst) →
         AllByRecursion (λ pred. holds pred p ≡ holds pred q) preds }
+{}
+
+/// A cell that is the first to fit some packet between two hosts has an own packet: the least that it is the first to fit.
+pub fn own_packets_are_least()
+    ensures { (preds : List Pred) (src dst : HostAddress) (c : Cell) (p : Packet) →
+        AllByRecursion IsPred preds → IsPacket p → FitsFirst preds src dst c p →
+        IsLeastPacket (FitsFirst preds src dst c) (own_packet preds src dst c) }
 {}

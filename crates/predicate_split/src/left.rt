@@ -14,7 +14,7 @@ use std::alloc::Global;
 
 /// What is left of a predicate between two hosts.
 #[tactic(auto, unfolding(crate::specs::Left::left_between))]
-fn pred_between(
+pub(crate) fn pred_between(
     alloc: Global,
     pred: &Pred,
     src: HostAddress,

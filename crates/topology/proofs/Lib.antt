@@ -1,14 +1,5 @@
-pub mod Distinct
 pub mod Lookup
 pub mod Tabled
-pub mod Counted
-pub mod Told
-pub mod Lexemes
-pub mod Elements
 pub mod Reached
-pub mod Described
-pub mod Addresses
-pub mod LinkedBoth
-pub mod Bounds
-pub mod Keeping
-pub mod Asked
+pub mod Listing
+pub mod Within

@@ -1,8 +1,5 @@
-pub mod Json
-pub mod Format
-pub mod Rules
-pub mod Laws
+pub mod Lawful
 pub mod Look
+pub mod Symbols
 pub mod Tables
 pub mod Kept
-pub mod Faults

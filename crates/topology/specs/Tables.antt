@@ -1,18 +1,11 @@
 -- What the tables of a topology hold.
-use Rattle.std.specs.Prelude.{◌≡◌, ℕ, List, map, Vec}
-use Rattle.std.specs.declared.alloc.Global.{Global}
-use Rattle.merlin_model.specs.declared.network.HostAddress.{HostAddress}
+use Rattle.std.specs.Prelude.{◌≡◌, ◌≢◌, ℕ, List, map}
 use Rattle.merlin_model.specs.declared.network.DirectedLink.{DirectedLink}
+use Rattle.merlin_model.specs.Networks.{Pairwise}
 
--- the texts that a table has as keys
-abbrev pub texts_of_keys : List (Vec ℕ Global) → List (List ℕ)
-texts_of_keys keys = map (λ key. key.items) keys
-
-abbrev pub eth_entry : HostAddress → ℕ × Unit {0}
-eth_entry address = (address.eth, tt)
-
-abbrev pub ip_entry : HostAddress → ℕ × Unit {0}
-ip_entry address = (address.ip, tt)
+-- each port of a location is that of one directed link, and at most one directed link leads from one location to another
+abbrev pub HaveOwnKeys : List DirectedLink → Type 0
+HaveOwnKeys = Pairwise (λ v w. v.from ≡ w.from → (v.out_port ≢ w.out_port) × (v.to ≢ w.to))
 
 -- by location and port: the location and port at the other end
 abbrev pub port_entry : DirectedLink → (ℕ × ℕ) × (ℕ × ℕ)

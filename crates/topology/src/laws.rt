@@ -1,14 +1,14 @@
-//! A law of the format. It is the contract of a function that does nothing.
+//! A law of symbols. It is the contract of a function that does nothing.
 
-ghost use Rattle.std.specs.Prelude.{◌≡◌, ℕ, List};
-ghost use Rattle.merlin_model.specs.Networks.{Network};
-ghost use Rattle.topology.specs.Rules.{IsTopologyNetwork};
-ghost use Rattle.topology.specs.Format.{IsTopology};
+ghost use Rattle.std.specs.Prelude.{◌↔◌, Contains};
+ghost use Rattle.merlin_model.specs.declared.policy.Symbol.{Symbol};
+ghost use Rattle.merlin_model.specs.Networks.{Network, AreDifferent};
+ghost use Rattle.merlin_model.specs.Words.{IsSymbol};
+ghost use Rattle.topology.specs.Symbols.{network_symbols};
 
-/// A text stands for one network, which keeps what callers rest on.
-pub fn one_network()
-    ensures one { (bytes : List ℕ) (net other : Network) → IsTopology bytes net →
-        IsTopology bytes other → net ≡ other }
-    ensures keeps { (bytes : List ℕ) (net : Network) → IsTopology bytes net →
-        IsTopologyNetwork net }
+/// The list of symbols has each symbol of the network, and each once.
+pub fn symbols_are_all()
+    ensures each { (net : Network) (x : Symbol) →
+        Contains (network_symbols net) x ↔ IsSymbol net x }
+    ensures once { (net : Network) → AreDifferent (network_symbols net) }
 {}

@@ -1,20 +1,16 @@
 //! Topologies: a network read from its JSON text, and what is looked up in it.
 #![tactic(auto)]
 
-mod fault;
-mod index;
 pub mod laws;
-pub mod limits;
 mod net;
 mod reader;
-mod rules;
-mod shape;
+mod symbols;
+mod tables;
 
-pub use fault::NetFault;
 pub use merlin_model::network::{
     DirectedLink, FnDecl, HostAddress, Link, Location, LocationKind, Place,
 };
-pub use merlin_model::policy::Ends;
+pub use merlin_model::policy::{Ends, Symbol};
 pub use net::Topology;
 pub use reader::read;
-pub use rules::directed_links_of;
+pub use topology_rules::{NetFault, directed_links_of};

@@ -1,25 +1,29 @@
 //! A topology, and what is looked up in it.
-ghost use Rattle.std.specs.Prelude.{◌≡◌, ◌<◌, ℕ, Some, length, option_map, slice_get, IfSome, IfNone};
+ghost use Rattle.std.specs.Prelude.{◌≡◌, ◌<◌, ℕ, Some, length, option_map, slice_get, IfOk, IfSome, IfNone};
 ghost use Rattle.merlin_model.specs.Networks.{address_of, AreLinked};
 ghost use Rattle.merlin_model.specs.Machine.{link_at};
-ghost use Rattle.topology.specs.Rules.{IsTopologyNetwork};
+ghost use Rattle.topology_shape.specs.Described.{described_by};
+ghost use Rattle.topology.specs.Lawful.{IsTopologyNetwork};
 ghost use Rattle.topology.specs.Look.{name_of, place_at, far_end};
+ghost use Rattle.topology.specs.Symbols.{network_symbols};
 
-use crate::index::number_of;
-use crate::rules::Tables;
-use indexmap::IndexSet;
+use crate::symbols::symbols_of;
+use crate::tables::{LinkTables, link_tables};
 use merlin_base::Name;
 use merlin_model::network::{FnDecl, HostAddress, Link, Location, LocationKind, Place};
+use merlin_model::policy::Symbol;
+use std::alloc::{AllocError, Global};
 use std::marker::Model;
+use topology_rules::directed_links_of;
+use topology_shape::Shape;
 
-/// A network that was read, with tables for what is looked up. Locations and links are numbered from 0 in the order of the text.
+/// A network that was read, with tables for what is looked up. Locations, links and functions are numbered from 0 in the order of the text,
+/// symbols by location, and at each location first the one without a function, then that of each function there.
 #[derive(Drop)]
 pub struct Topology {
-    pub(crate) locations: Vec<Location>,
-    pub(crate) links: Vec<Link>,
-    // the names by number
-    pub(crate) numbers: IndexSet<Vec<u8>>,
-    pub(crate) tables: Tables,
+    shape: Shape,
+    tables: LinkTables,
+    symbols: Vec<Symbol>,
 }
 
 impl Model for Topology {
@@ -35,12 +39,33 @@ impl Model for Topology {
 }
 
 impl Topology {
+    /// The network of a shape, which keeps all laws.
+    pub(crate) fn new(alloc: Global, shape: Shape) -> Result<Self, AllocError>
+        requires { IsTopologyNetwork (described_by shape) }
+        ensures { IfOk result (λ net. net ≡ described_by shape) }
+    {
+        let directed_links = directed_links_of(alloc, &shape.links)?;
+        let tables = link_tables(alloc, &directed_links)?;
+        let symbols = symbols_of(alloc, shape.named.locations().len(), &shape.functions)?;
+        Ok(Topology {
+            shape,
+            tables,
+            symbols,
+        })
+    }
+
+    fn all_locations(&self) -> &[Location]
+        ensures { result.now ≡ self.now.locations }
+    {
+        self.shape.named.locations()
+    }
+
     /// The number of locations. They keep the laws of networks and the limits of the format.
     pub fn locations(&self) -> usize
         ensures count { result ≡ length self.now.locations }
         ensures lawful { IsTopologyNetwork self.now }
     {
-        self.locations.len()
+        self.shape.named.locations().len()
     }
 
     /// The name of a location.
@@ -48,7 +73,7 @@ impl Topology {
         requires { loc < length self.now.locations }
         ensures { name_of self.now loc ≡ Some result.now }
     {
-        &self.locations[loc].name
+        &self.all_locations()[loc].name
     }
 
     /// What stands at a location.
@@ -56,7 +81,7 @@ impl Topology {
         requires { loc < length self.now.locations }
         ensures { place_at self.now loc ≡ Some result }
     {
-        match self.locations[loc].kind {
+        match self.all_locations()[loc].kind {
             LocationKind::Host(_) => Place::Host,
             LocationKind::Switch => Place::Switch,
             LocationKind::Middlebox => Place::Middlebox,
@@ -68,7 +93,7 @@ impl Topology {
         requires { loc < length self.now.locations }
         ensures { result ≡ address_of self.now loc }
     {
-        match self.locations[loc].kind {
+        match self.all_locations()[loc].kind {
             LocationKind::Host(address) => Some(address),
             LocationKind::Switch | LocationKind::Middlebox => None,
         }
@@ -78,15 +103,21 @@ impl Topology {
     pub fn links(&self) -> &[Link]
         ensures { result.now ≡ self.now.links }
     {
-        &self.links
+        &self.shape.links
     }
 
-    /// The packet functions, in the order of the text. There are none yet.
+    /// The packet functions, in the order of the text.
     pub fn functions(&self) -> &[FnDecl]
         ensures { result.now ≡ self.now.functions }
     {
-        let _ = &self.locations;
-        &[]
+        &self.shape.functions
+    }
+
+    /// The symbols: each location alone, then with each function that is placed there.
+    pub fn symbols(&self) -> &[Symbol]
+        ensures { result.now ≡ network_symbols self.now }
+    {
+        &self.symbols
     }
 
     /// The number of the location of this name. None where no location has it.
@@ -94,7 +125,7 @@ impl Topology {
         ensures some { IfSome result (λ loc. name_of self.now loc ≡ Some name.now) }
         ensures none { IfNone result ((loc : ℕ) → name_of self.now loc ≡ Some name.now → ⊥) }
     {
-        number_of(&self.numbers, name)
+        self.shape.named.find(name)
     }
 
     /// The location and the port at the other end of the link at this port. None where the port has no link.

@@ -32,9 +32,11 @@ fn places_of(
     named: &NamedLocations,
 ) -> Result<Option<Items<usize>>, AllocError>
     ensures some { IfOk result (λ o. IfSome o (λ places.
-        HasElements (IsPlaceOf (location_names named.now)) (codes "places") (view value.now) places)) }
+        HasElements (IsPlaceOf (location_names named.now)) (codes "places") (view value.now)
+        places)) }
     ensures none { IfOk result (λ o. IfNone o ((places : List ℕ) →
-        ¬ HasElements (IsPlaceOf (location_names named.now)) (codes "places") (view value.now) places)) }
+        ¬ HasElements (IsPlaceOf (location_names named.now)) (codes "places") (view value.now)
+        places)) }
 {
     let Some(items) = items_under(value, "places") else {
         return Ok(None);

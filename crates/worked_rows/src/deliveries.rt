@@ -10,9 +10,9 @@ use crate::texts::{parted, text_of};
 use merlin::{Compiled, compile_policy};
 use merlin_model::policy::Objective;
 use packet_model::{Packet, print_packet};
-use packet_trace::{End, Trace, trace_plain};
+use packet_trace::{End, Trace, Tracer, declared};
 use std::alloc::Global;
-use topology::Topology;
+use topology::{FnDecl, Topology};
 
 fn is_host(net: &Topology, loc: usize) -> bool
     ensures { IsTrue result → IsHost net.now loc }
@@ -60,14 +60,24 @@ fn describe(alloc: Global, out: &mut Lines, net: &Topology, trace: &Trace) {
 }
 
 fn follow(alloc: Global, compiled: &Compiled, host: usize, packet: Packet, out: &mut Lines) {
-    if !is_host(&compiled.net, host) || !compiled.config.processes.is_empty() {
-        out.answer(1, "no trace");
+    if !is_host(&compiled.net, host) {
+        out.answer(1, "no host");
         return;
     }
-    match trace_plain(alloc, &compiled.net, &compiled.config, host, packet) {
+    let tracer = Tracer::new(
+        &compiled.net,
+        &compiled.config,
+        |decl: &FnDecl, packet: Packet| declared(decl, packet),
+    );
+    match tracer.trace(alloc, host, packet) {
         Ok(trace) => describe(alloc, out, &compiled.net, &trace),
         Err(_) => out.cut(),
     }
+    let Tracer {
+        net: _net,
+        config: _config,
+        apply: _apply,
+    } = tracer;
 }
 
 fn follow_from(alloc: Global, compiled: &Compiled, words: &str, out: &mut Lines) {

@@ -14,6 +14,7 @@ mod rates;
 mod row;
 mod script;
 mod sizes;
+mod splits;
 mod store;
 mod texts;
 mod tokens;

@@ -5,10 +5,11 @@ use crate::lines::Lines;
 use crate::packets;
 use crate::store::{Store, content};
 use crate::texts::parted;
-use merlin_base::{ip_text, mac_text};
+use merlin_base::{Name, ip_text, mac_text};
 use merlin_model::network::Place;
+use merlin_model::policy::Field;
 use std::alloc::Global;
-use topology::{HostAddress, NetFault, Topology, read};
+use topology::{FnDecl, HostAddress, NetFault, Topology, read};
 
 fn place_word(place: Place) -> &'static str {
     match place {
@@ -80,6 +81,54 @@ fn add_links(out: &mut Lines, net: &Topology) {
     }
 }
 
+fn field_word(field: Field) -> &'static str {
+    match field {
+        Field::EthSrc => "eth.src",
+        Field::EthDst => "eth.dst",
+        Field::IpSrc => "ip.src",
+        Field::IpDst => "ip.dst",
+        Field::Proto => "ip.proto",
+        Field::Sport => "sport",
+        Field::Dport => "dport",
+    }
+}
+
+// The line of a packet function: its name, its places, and what it sets.
+fn add_function(out: &mut Lines, function: &FnDecl) {
+    out.add("function ");
+    out.add_bytes(function.name.bytes());
+    out.add(" at");
+    for place in function.places.as_slice() {
+        out.add_numbers(&[*place as u64]);
+    }
+    for setting in function.set.as_slice() {
+        out.add(" ");
+        out.add(field_word(setting.0));
+        out.add("=");
+        out.add_number(setting.1);
+    }
+    out.add("\n");
+}
+
+// A line for each packet function, and one for all symbols where there are functions: a location, and a function behind a colon.
+fn add_functions(out: &mut Lines, net: &Topology) {
+    for function in net.functions() {
+        add_function(out, function);
+    }
+    if net.functions().is_empty() {
+        return;
+    }
+    out.add("symbols");
+    for symbol in net.symbols() {
+        out.add_numbers(&[symbol.loc as u64]);
+        if let Some(function) = symbol.fun {
+            out.add(":");
+            out.add_number(function as u64);
+        }
+    }
+    out.add("\n");
+}
+
 // Status 0 and the lines of a network.
 fn describe(alloc: Global, out: &mut Lines, net: &Topology) {
     out.add("0\n");
@@ -90,6 +139,40 @@ fn describe(alloc: Global, out: &mut Lines, net: &Topology) {
     for loc in 0..net.locations() {
         add_neighbours(out, net, loc);
     }
+    add_functions(out, net);
+}
+
+fn add_named(out: &mut Lines, what: &str, name: &Name) {
+    out.add(what);
+    out.add(" ");
+    out.add_bytes(name.bytes());
+}
+
+// Status 1 and why a text is no topology.
+fn refuse(out: &mut Lines, fault: &NetFault) {
+    out.add("1\n");
+    match fault {
+        NetFault::Json => out.add("json"),
+        NetFault::Shape { what } => add_named(out, "shape", what),
+        NetFault::TooLarge { what, count } => {
+            add_named(out, "too large", what);
+            out.add_numbers(&[*count]);
+        }
+        NetFault::DuplicateName { name } => add_named(out, "duplicate name", name),
+        NetFault::DuplicateAddress { name } => add_named(out, "duplicate address", name),
+        NetFault::DuplicatePort { name, port } => {
+            add_named(out, "duplicate port", name);
+            out.add_numbers(&[u64::from(*port)]);
+        }
+        NetFault::ParallelLink { link } => {
+            out.add("parallel link");
+            out.add_numbers(&[*link as u64]);
+        }
+        NetFault::HostLink { name } => add_named(out, "host link", name),
+        NetFault::Placement { name } => add_named(out, "placement", name),
+        NetFault::OutOfMemory => out.cut(),
+    }
+    out.add("\n");
 }
 
 /// What is asked of a topology.
@@ -113,8 +196,6 @@ pub fn answer_to(alloc: Global, words: &str, store: &Store, asked: Asked, out: &
     let (file, words) = parted(words);
     match read(alloc, content(store, file)) {
         Ok(net) => answer(alloc, &net, asked, words, out),
-        Err(NetFault::Json) => out.answer(1, "json"),
-        Err(NetFault::Unbuilt) => out.answer(1, "unbuilt"),
-        Err(NetFault::OutOfMemory) => out.cut(),
+        Err(fault) => refuse(out, &fault),
     }
 }

@@ -1,9 +1,12 @@
 //! What a policy text stands for, as a short text, and what else is asked of a policy.
 
+ghost use Rattle.std.specs.List.{AllByRecursion};
+ghost use Rattle.merlin_model.specs.Predicates.{IsPred};
+
 use crate::lines::Lines;
 use crate::store::{Store, content};
 use crate::texts::parted;
-use crate::{automata, rates, sizes, traffic};
+use crate::{automata, rates, sizes, splits, traffic};
 use merlin_model::policy::{Field, Pred, Test};
 use policy_grammar::written::RawPath;
 use policy_parser::{Policy, PolicyFault, Statement, parse};
@@ -220,16 +223,21 @@ pub enum Asked {
     States,
     /// `accepts|FILE|SYMBOLS|WORDS`: for each line of the file WORDS whether the automaton accepts this word of symbols
     Accepts,
+    /// `overlap|FILE`: the first two statements whose predicates share a packet, and the least packet that they share
+    Overlap,
+    /// `outside|FILE`: the least packet of which no predicate holds
+    Outside,
+    /// `common|FILE`: the least packet of which all predicates hold
+    Common,
+    /// `cells|FILE|PACKET`: a line for each cell between the hosts that the packet names, with its protocol, ports and owner
+    Cells,
+    /// `count|FILE|PACKET`: how many of these cells name both ports, the source port, the destination port, the protocol alone, and nothing
+    CellCount,
 }
 
-fn answer(
-    alloc: Global,
-    policy: &Policy,
-    asked: Asked,
-    words: &str,
-    store: &Store,
-    out: &mut Lines,
-) {
+fn answer(alloc: Global, policy: &Policy, asked: Asked, words: &str, store: &Store, out: &mut Lines)
+    requires { AllByRecursion (λ s. IsPred s.pred) policy.now.statements }
+{
     match asked {
         Asked::Whole => describe(alloc, out, policy),
         Asked::Size => sizes::describe(out, policy),
@@ -239,6 +247,9 @@ fn answer(
         Asked::Rates => rates::answer_to(alloc, policy, out),
         Asked::Table | Asked::States | Asked::Accepts => {
             automata::answer_to(alloc, policy, asked, words, store, out)
+        }
+        Asked::Overlap | Asked::Outside | Asked::Common | Asked::Cells | Asked::CellCount => {
+            splits::answer_to(alloc, policy, asked, words, out)
         }
     }
 }

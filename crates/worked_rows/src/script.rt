@@ -6,9 +6,11 @@
 //! | `file NAME` | a file, whose lines follow, each behind a bar and a blank |
 //! | `text NAME: TEXT` | a file of this text without a newline |
 //! | `bytes NAME: 7b ff` | a file of these bytes |
-//! | `add NAME TIMES: TEXT` | so many times this text more at the end of a file, each time with its number, from 0, in place of each `%` |
+//! | `add NAME TIMES: TEXT` | so many times this text more at the end of a file, each time with its number, from 0, in place of each `%`, and in place of each `~` how many there are from it on |
+//! | `add NAME FIRST..END: TEXT` | the same, with the numbers from the first up to the end, which is left out |
 //! | `lines NAME TIMES: TEXT` | the same, each time with a newline |
 //! | `run WORD\|WORD\|..` | the command of the rows that follow, up to the next `run` |
+//! | `keep NAME` | a file of what the command writes now, which must end with status 0 |
 //! | `fail read N`, `fail write N` | call N, from 0, on the files or on the sink fails in the next row |
 //! | `= STATUS TEXT` | a row: the command runs, and ends with this status and these lines; further lines follow behind bars |
 //! | `! STATUS TEXT` | a row that must not hold |
@@ -29,11 +31,17 @@ fn named_text(rest: &str) -> Option<(&str, &str)> {
     Some((name, text.strip_prefix(' ').unwrap_or(text)))
 }
 
-// A file, how many times, and a text, as `p 128: (`.
-fn counted_text(rest: &str) -> Option<(&str, u64, &str)> {
+// Numbers, as `128` from 0 or `5..9`.
+fn numbers_of(text: &str) -> Option<(u64, u64)> {
+    let (first, end) = text.split_once("..").unwrap_or(("0", text));
+    Some((first.parse::<u64>().ok()?, end.parse::<u64>().ok()?))
+}
+
+// A file, numbers, and a text, as `p 128: (`.
+fn counted_text(rest: &str) -> Option<(&str, (u64, u64), &str)> {
     let (head, text) = named_text(rest)?;
-    let (name, times) = head.split_once(' ')?;
-    Some((name, times.parse::<u64>().ok()?, text))
+    let (name, numbers) = head.split_once(' ')?;
+    Some((name, numbers_of(numbers)?, text))
 }
 
 /// The rows so far.
@@ -109,9 +117,8 @@ impl Script {
         }
     }
 
-    // Runs the command of a row, and compares.
-    fn run_row(&mut self, row: &Row) {
-        self.rows = self.rows.saturating_add(1);
+    // What the command answers.
+    fn answered(&self) -> Lines {
         let mut out = Lines::new(self.alloc);
         answer_to(
             self.alloc,
@@ -121,6 +128,13 @@ impl Script {
             &self.failing_writes,
             &mut out,
         );
+        out
+    }
+
+    // Runs the command of a row, and compares.
+    fn run_row(&mut self, row: &Row) {
+        self.rows = self.rows.saturating_add(1);
+        let out = self.answered();
         self.compare(row, out.text());
     }
 
@@ -194,14 +208,14 @@ impl Script {
         }
     }
 
-    // A piece so many times more at the end of a file, where `%` stands for its number, from 0.
+    // A piece so many times more at the end of a file, where `%` stands for its number, from 0, and `~` for how many there are from it on.
     fn take_times(&mut self, rest: &str, end: &str) -> Result<(), OutOfMemory> {
         match counted_text(rest) {
-            Some((name, times, piece)) => {
-                add_times(&mut self.store, self.alloc, name, piece, end, times)
+            Some((name, (first, past), piece)) => {
+                add_times(&mut self.store, self.alloc, name, piece, end, first, past)
             }
             None => {
-                self.note(self.line, "no file, times and text");
+                self.note(self.line, "no file, numbers and text");
                 Ok(())
             }
         }
@@ -243,6 +257,18 @@ impl Script {
         Ok(())
     }
 
+    // A file of what the command writes.
+    fn keep(&mut self, name: &str) -> Result<(), OutOfMemory> {
+        let out = self.answered();
+        match out.text().strip_prefix("0\n") {
+            Some(text) => put(&mut self.store, self.alloc, name, text.as_bytes()),
+            None => {
+                self.note(self.line, "the command was not done");
+                Ok(())
+            }
+        }
+    }
+
     // The command of the rows that follow.
     fn take_run(&mut self, command: &str) -> Result<(), OutOfMemory> {
         self.command = String::from_str(self.alloc, command)?;
@@ -260,6 +286,7 @@ impl Script {
             "lines" => return self.take_times(rest, "\n"),
             "bytes" => return self.take_bytes(rest),
             "fail" => return self.take_fail(rest),
+            "keep" => return self.keep(rest),
             "run" => return self.take_run(rest),
             "=" => self.begin_row(rest, true),
             "!" => self.begin_row(rest, false),

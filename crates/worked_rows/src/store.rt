@@ -28,28 +28,40 @@ pub fn add(store: &mut Store, alloc: Global, name: &str, piece: &[u8]) -> Result
     }
 }
 
-// Adds the piece with a number in place of each `%`.
-fn add_numbered(text: &mut Lines, piece: &str, number: u64) {
-    for (place, part) in piece.split('%').enumerate() {
+// Adds the piece with a number in place of each `~`.
+fn add_left(text: &mut Lines, piece: &str, left: u64) {
+    for (place, part) in piece.split('~').enumerate() {
         if place > 0 {
-            text.add_number(number);
+            text.add_number(left);
         }
         text.add(part);
     }
 }
 
-/// Adds a piece and an end so many times to a file, each time with its number, from 0, in place of each `%` of the piece.
+// Adds the piece with a number in place of each `%`, and how many there are from it on in place of each `~`.
+fn add_numbered(text: &mut Lines, piece: &str, number: u64, left: u64) {
+    for (place, part) in piece.split('%').enumerate() {
+        if place > 0 {
+            text.add_number(number);
+        }
+        add_left(text, part, left);
+    }
+}
+
+/// Adds a piece and an end to a file for each number from the first to that before the last, which stands in place of each `%` of the piece, and how many
+/// there are from it on in place of each `~`: the last has 1.
 pub fn add_times(
     store: &mut Store,
     alloc: Global,
     name: &str,
     piece: &str,
     end: &str,
-    times: u64,
+    first: u64,
+    past: u64,
 ) -> Result<(), OutOfMemory> {
     let mut text = Lines::new(alloc);
-    for number in 0..times {
-        add_numbered(&mut text, piece, number);
+    for number in first..past {
+        add_numbered(&mut text, piece, number, past - number);
         text.add(end);
     }
     add(store, alloc, name, text.text().as_bytes())

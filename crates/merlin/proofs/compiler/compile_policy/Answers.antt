@@ -4,20 +4,22 @@ use Rattle.merlin.proofs.Naming.{IsPolicyOf-supported}
 use Rattle.merlin.proofs.Printable.{over}
 use Rattle.merlin.proofs.compiler.compile_policy.Goals as goal
 
+pub configuration_of-requires : goal.configuration_of-requires
+configuration_of-requires c = c.in_ok-net.ensures.ok.built.network.no_middlebox
+
 pub returns-clause-ok : goal.returns-clause-ok
 returns-clause-ok c =
-    let supported = c.in_ok-read_supported.ensures.ok in
+    let read = c.in_ok-net.ensures.ok in
     let plain = c.in_ok-config.ensures.config in
     let nothing = c.plain_reserves_nothing.ensures in
     record {
       policy = any_path_policy;
       ends = [];
       input = record {
-        raw = supported.raw;
-        stands = supported.stands;
-        supported = supported.supported;
-        network = c.in_ok-net.ensures.ok;
-        named = IsPolicyOf-supported c.in_ok-net.net supported.raw supported.supported;
+        raw = read.raw;
+        read = read.read;
+        built = read.built;
+        named = IsPolicyOf-supported c.in_ok-net.net read.raw read.built.policy;
       };
       accepted = nothing.accepted c.in_ok-net.net;
       asked = refl;

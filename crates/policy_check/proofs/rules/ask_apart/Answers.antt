@@ -1,4 +1,4 @@
-use Rattle.std.proofs.Common.{◌≡◌, sym, ◌∙◌, subst}
+use Rattle.std.proofs.Common.{◌∙◌}
 use Rattle.policy_check.proofs.Overlapping.{apart-of}
 use Rattle.policy_check.proofs.rules.ask_apart.Goals as goal
 

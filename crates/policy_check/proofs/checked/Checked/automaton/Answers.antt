@@ -1,4 +1,4 @@
-use Rattle.std.proofs.Common.{◌≡◌, ◌<◌, length, sym, ◌∙◌, ap, arith}
+use Rattle.std.proofs.Common.{length, sym, ◌∙◌, ap, arith}
 use Rattle.merlin_model.specs.Policies.{paths_of}
 use Rattle.policy_check.specs.Checked.{CheckedPolicy}
 use Rattle.policy_check.proofs.Keeping.{paths-view}

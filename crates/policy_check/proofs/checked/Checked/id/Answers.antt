@@ -1,4 +1,4 @@
-use Rattle.std.proofs.Common.{◌≡◌, slice_get, sym, ◌∙◌, ap}
+use Rattle.std.proofs.Common.{slice_get, sym, ◌∙◌, ap}
 use Rattle.rate_formula.specs.Usage.{ids_in}
 use Rattle.policy_check.specs.Checked.{CheckedPolicy}
 use Rattle.policy_check.proofs.Keeping.{ids-view}

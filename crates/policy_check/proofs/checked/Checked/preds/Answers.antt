@@ -1,4 +1,4 @@
-use Rattle.std.proofs.Common.{◌≡◌, map, sym, ◌∙◌, ap}
+use Rattle.std.proofs.Common.{map, sym, ◌∙◌, ap}
 use Rattle.policy_check.specs.Checked.{CheckedPolicy}
 use Rattle.policy_check.proofs.Keeping.{preds-view}
 use Rattle.policy_check.proofs.checked.Checked.preds.Goals as goal

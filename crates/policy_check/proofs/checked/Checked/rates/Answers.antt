@@ -1,4 +1,4 @@
-use Rattle.std.proofs.Common.{◌≡◌, sym, ◌∙◌, ap}
+use Rattle.std.proofs.Common.{sym, ◌∙◌, ap}
 use Rattle.rate_formula.specs.Usage.{ids_in}
 use Rattle.localise.specs.Localised.{localised}
 use Rattle.policy_check.specs.Checked.{CheckedPolicy}

@@ -1,0 +1,13 @@
+pub mod Then
+pub mod AddressTexts
+pub mod QueueParts
+pub mod LoadParts
+pub mod FunctionTexts
+pub mod ProcessParts
+pub mod FrameLines
+pub mod SymbolTexts
+pub mod RuleParts
+pub mod Joined
+pub mod MatchTexts
+pub mod MatchReads
+pub mod ActionTexts

@@ -1,0 +1,13 @@
+use Rattle.std.proofs.Common.{arith}
+use Rattle.merlin_base.specs.Addresses.{mac_text}
+use Rattle.config_lines.proofs.Then.{no_byte, same_part}
+use Rattle.config_lines.proofs.AddressTexts.{mac_free}
+use Rattle.config_lines.proofs.addresses.mac_then.Goals as goal
+
+pub returns-in_err-word-clause-none : goal.returns-in_err-word-clause-none
+returns-in_err-word-clause-none c = rw c.from_residual.ensures (λ n rest is e. no_byte 32 c.args.text.now (mac_text n) rest c.in_err-word.ensures.none e)
+
+pub returns-in_err-eth-clause-none : goal.returns-in_err-eth-clause-none
+returns-in_err-eth-clause-none c =
+    rw c.from_residual-in_err-eth.ensures (λ n rest is e.
+    c.in_err-eth.ensures.none n is (same_part 32 c.args.text.now c.in_ok-word.word.now c.in_ok-word.rest.now (mac_text n) rest c.in_ok-word.ensures.some.0 c.in_ok-word.ensures.some.1 (mac_free 32 n (omega arith)) e).front)

@@ -1,0 +1,14 @@
+use Rattle.std.proofs.Common.{arith}
+use Rattle.std.specs.Fmt.{decimal}
+use Rattle.config_lines.proofs.Then.{no_byte, same_part, short_free}
+use Rattle.config_lines.proofs.words.short_then.Goals as goal
+
+pub returns-in_err-word-clause-none : goal.returns-in_err-word-clause-none
+returns-in_err-word-clause-none c = rw c.from_residual.ensures (λ n rest is e. no_byte c.args.byte c.args.text.now (decimal n) rest c.in_err-word.ensures.none e)
+
+pub returns-in_err-number-clause-none : goal.returns-in_err-number-clause-none
+returns-in_err-number-clause-none c =
+    rw c.from_residual-in_err-number.ensures (λ n rest is e.
+    let most = c.ranges.most in
+    c.in_err-number.ensures.none n is (same_part c.args.byte c.args.text.now c.in_ok-word.word.now c.in_ok-word.rest.now (decimal n) rest c.in_ok-word.ensures.some.0 c.in_ok-word.ensures.some.1
+    (short_free c.args.byte c.args.least c.args.most n c.requires (omega arith) is) e).front)

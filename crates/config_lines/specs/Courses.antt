@@ -1,0 +1,26 @@
+-- What a rule does, as a list of actions.
+use Rattle.std.specs.Prelude.{List, [], ◌∷◌}
+use Rattle.merlin_model.specs.declared.config.Action.{Action}
+use Rattle.merlin_model.specs.declared.config.Action.TheVariants.{SetVlan, StripVlan, Output, Enqueue}
+use Rattle.config_lines.specs.declared.actions.Course.{Course}
+use Rattle.config_lines.specs.declared.actions.Course.TheVariants.{Drop, Send, ChangeAndSend}
+use Rattle.config_lines.specs.declared.rules.PlainRule.{PlainRule}
+use Rattle.merlin_model.specs.declared.config.Rule.{Rule}
+use Rattle.config_lines.specs.Words.{IsTag, IsQueue}
+use Rattle.config_lines.specs.Parts.{IsOut}
+
+-- an action with lawful numbers
+abbrev pub IsAction : Action → Type 0
+IsAction (SetVlan tag) = IsTag tag
+IsAction StripVlan = Unit {0}
+IsAction (Output out) = IsOut out
+IsAction (Enqueue out queue) = IsOut out × IsQueue queue
+
+abbrev pub actions_of : Course → List Action
+actions_of Drop = []
+actions_of (Send send) = send ∷ []
+actions_of (ChangeAndSend change send) = change ∷ send ∷ []
+
+abbrev pub rule_of : PlainRule → Rule
+rule_of plain =
+    record { loc = plain.loc; priority = plain.priority; fits = plain.fits; actions = actions_of plain.course }

@@ -1,0 +1,6 @@
+pub mod Words
+pub mod Parts
+pub mod Lines
+pub mod Fields
+pub mod Courses
+pub mod Frames

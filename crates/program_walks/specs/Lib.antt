@@ -1,0 +1,5 @@
+pub mod Turned
+pub mod Paths
+pub mod Followed
+pub mod Marks
+pub mod Solutions

@@ -1,0 +1,4 @@
+pub mod RatesByPlace
+pub mod Crossed
+pub mod ClassNumbers
+pub mod HostLaws

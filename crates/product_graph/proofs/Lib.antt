@@ -13,3 +13,4 @@ pub mod Joins
 pub mod Bridging
 pub mod Listing
 pub mod Trimming
+pub mod Ordered

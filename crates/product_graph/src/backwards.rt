@@ -13,13 +13,13 @@ use std::alloc::Global;
 
 /// Edges between so many places, each turned round, at the cost of one.
 #[derive(Drop)]
-pub struct Backwards {
+pub struct ReversedEdges {
     pub edges: Items<(usize, usize)>,
     pub places: usize,
     ghost inside: { AreInside places edges None } by { Prim.hlevel props },
 }
 
-impl Graph for Backwards {
+impl Graph for ReversedEdges {
     ghost size = { λ it. it.places };
 
     ghost edges_of = { λ it. reversed_edges it.edges };
@@ -54,7 +54,7 @@ pub fn edges_left(
 {
     // so many edges that their costs can be added
     let _ = edges.as_slice();
-    let graph = Backwards {
+    let graph = ReversedEdges {
         edges,
         places: last + 1,
     };

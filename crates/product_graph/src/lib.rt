@@ -18,6 +18,5 @@ mod walks;
 
 pub use followers::Followers;
 pub use merlin_model::OutOfMemory;
-pub use product::{build, build_over};
-pub use rows::followers_in;
+pub use product::{build, build_over, followers_of};
 pub use span::{Product, Span2, Vertex};

@@ -5,6 +5,7 @@
 ghost use Rattle.std.specs.Prelude.{◌≡◌, ◌<◌, ◌++◌, ◌∷◌, [], length, map, IfOk};
 ghost use Rattle.std.specs.List.{AllByRecursion};
 ghost use Rattle.merlin_model.specs.Networks.{IsHost, AreDifferent};
+ghost use Rattle.topology.specs.Symbols.{network_symbols};
 ghost use Rattle.product_graph.specs.declared.span.Span2.{Span2};
 ghost use Rattle.product_graph.specs.Followers.{AreOrderedSymbols, AreFollowersOf};
 ghost use Rattle.product_graph.specs.Numbered.{ground_of, IsOnGround};
@@ -149,10 +150,8 @@ fn product_of(
     }
 }
 
-/// The product of an automaton with a network between hosts, over the network's symbols and how they
-/// go on, which serve all products over this network. It is trimmed to what lies on walks, and has no
-/// vertex where no walk is allowed.
-pub fn build_over(
+/// The product over these symbols.
+fn product_over(
     alloc: Global,
     net: &Topology,
     symbols: &[Symbol],
@@ -179,22 +178,46 @@ pub fn build_over(
     )
 }
 
-/// The product of an automaton with a network between hosts. The automaton goes by the numbers of the
-/// symbols in the list, which has the network's symbols by location, and at each location first
-/// without a function. The product is trimmed to what lies on walks, and has no vertex where no walk
-/// is allowed.
-pub fn build(
+/// How the symbols of a network go on in it, which serves all products over this network.
+pub fn followers_of(alloc: Global, net: &Topology) -> Result<Followers, OutOfMemory>
+    ensures { IfOk result (AreFollowersOf net.now (network_symbols net.now)) }
+{
+    followers_in(alloc, net, net.symbols())
+}
+
+/// The product of an automaton over a network's symbols with the network, between hosts. It is trimmed
+/// to what lies on walks, and has no vertex where no walk is allowed.
+pub fn build_over(
     alloc: Global,
     net: &Topology,
-    symbols: &[Symbol],
+    followers: &Followers,
     automaton: &Automaton,
     span: Span2,
 ) -> Result<Product, OutOfMemory>
-    requires symbols { AreOrderedSymbols net.now symbols.now }
-    requires width { automaton.now.width ≡ length symbols.now }
+    requires followers { AreFollowersOf net.now (network_symbols net.now) followers.now }
+    requires width { automaton.now.width ≡ length (network_symbols net.now) }
     requires host { IsHost net.now (dest_of span) }
-    ensures { IfOk result (IsProduct net.now (automaton_of symbols.now automaton.now) span) }
+    ensures { IfOk result
+        (IsProduct net.now (automaton_of (network_symbols net.now) automaton.now) span) }
 {
-    let followers = followers_in(alloc, net, symbols)?;
-    build_over(alloc, net, symbols, &followers, automaton, span)
+    let symbols = net.symbols();
+    product_over(alloc, net, symbols, followers, automaton, span)
+}
+
+/// The product of an automaton over a network's symbols with the network, between hosts: its vertices
+/// are symbols with the states after them, by location, function and state. It is trimmed to what lies
+/// on walks, and has no vertex where no walk is allowed.
+pub fn build(
+    alloc: Global,
+    net: &Topology,
+    automaton: &Automaton,
+    span: Span2,
+) -> Result<Product, OutOfMemory>
+    requires width { automaton.now.width ≡ length (network_symbols net.now) }
+    requires host { IsHost net.now (dest_of span) }
+    ensures { IfOk result
+        (IsProduct net.now (automaton_of (network_symbols net.now) automaton.now) span) }
+{
+    let followers = followers_of(alloc, net)?;
+    build_over(alloc, net, &followers, automaton, span)
 }

@@ -1,0 +1,11 @@
+pub mod Steps
+pub mod Permitting
+pub mod Rows
+pub mod WayBack
+pub mod Trails
+pub mod Sizes
+pub mod Marking
+pub mod Flat
+pub mod Costing
+pub mod Flooring
+pub mod Looking

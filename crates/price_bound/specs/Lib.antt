@@ -1,0 +1,6 @@
+pub mod Asked
+pub mod Steps
+pub mod Graphs
+pub mod Spreads
+pub mod Priced
+pub mod Numbers

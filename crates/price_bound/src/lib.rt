@@ -1,0 +1,15 @@
+//! What is found of a box of the program by whole-number prices on links and shortest walks.
+#![tactic(auto)]
+
+mod costs;
+mod floors;
+mod flow_graph;
+mod leaf;
+mod measure;
+mod numbers;
+mod permitted;
+mod prices;
+mod spread;
+mod tried;
+
+pub use prices::{Prices, new};

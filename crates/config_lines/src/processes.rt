@@ -53,9 +53,11 @@ fn read_functions(
     net: &Topology,
     word: &[u8],
 ) -> Result<Option<Items<usize>>, OutOfMemory>
-    ensures some { IfOk result (λ o. IfSome o (λ fs. (word.now ≡ functions_text net.now.functions fs)
+    ensures some { IfOk result (λ o. IfSome o (λ fs.
+        (word.now ≡ functions_text net.now.functions fs)
         × AllByRecursion (IsFunction net.now) fs)) }
-    ensures none { IfOk result (λ o. IfNone o ((fs : List ℕ) → AllByRecursion (IsFunction net.now) fs →
+    ensures none { IfOk result (λ o. IfNone o ((fs : List ℕ) →
+        AllByRecursion (IsFunction net.now) fs →
         word.now ≡ functions_text net.now.functions fs → ⊥)) }
 {
     let mut functions = Items::new(alloc);

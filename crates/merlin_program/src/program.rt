@@ -10,6 +10,7 @@ ghost use Rattle.cutoff_program.specs.Trails.{IsNeat};
 ghost use Rattle.cutoff_program.proofs.Forms.{is_program};
 ghost use Rattle.cutoff_program.proofs.Cutoffs.{has_cutoffs};
 ghost use Rattle.program_walks.specs.Solutions.{IsPointOfWalks, AreWalksOfPoint};
+ghost use Rattle.program_walks.specs.Loads.{AreSimpleWalks, IsValueOfWalks};
 ghost use Rattle.merlin_program.specs.Kept.{kept, variable_at};
 
 use crate::loads::value_of;
@@ -20,7 +21,7 @@ use cutoff_program::flow::{Problem, Variable};
 use integer_program::Program;
 use merlin_model::OutOfMemory;
 use merlin_model::policy::{Symbol, Value};
-use program_walks::{cost, point_of_walks, walks_of_point};
+use program_walks::{cost, point_of_walks, value_of_walks, walks_of_point};
 use sqlite_items::Items;
 use std::alloc::Global;
 
@@ -104,6 +105,14 @@ impl MerlinProgram {
             variables,
             walks,
         )
+    }
+
+    /// The value of walks that are allowed and simple, one for each guaranteed statement.
+    pub fn value(&self, walks: &[Items<Symbol>]) -> Value
+        requires { AreSimpleWalks self.now.problem self.now.symbols walks.now }
+        ensures { IsValueOfWalks self.now.problem self.now.symbols walks.now result }
+    {
+        value_of_walks(&self.problem, self.symbols.as_slice(), walks)
     }
 
     /// The walks of a point, one for each guaranteed statement. Those of a solution are allowed, simple and feasible, and their value

@@ -18,6 +18,7 @@ pub mod Owners
 pub mod FirstCells
 pub mod OwnPackets
 pub mod Lefts
+pub mod Stretching
 pub mod CellCounts
 pub mod CellLists
 pub mod Meeting

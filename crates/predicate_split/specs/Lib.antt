@@ -8,3 +8,4 @@ pub mod Overlaps
 pub mod Left
 pub mod Cells
 pub mod Grids
+pub mod Stretches

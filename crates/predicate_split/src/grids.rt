@@ -3,17 +3,25 @@
 ghost use Rattle.std.specs.Prelude.{◌≡◌, ◌<◌, ◌≤◌, ◌*◌, ◌^◌, ◌++◌, ℕ, [], if◌then◌else◌, true, false, IfOk, OnOk, MatchOption};
 ghost use Rattle.std.specs.List.{AllByRecursion};
 ghost use Rattle.predicate_split.specs.Grids.{ports_by as ports_named, port_choices, row_of, rows_of, IsGrid, NamesPorts, cells_in};
+ghost use Rattle.merlin_model.specs.Packets.{field_of};
+ghost use Rattle.merlin_model.specs.Predicates.{IsPort};
+ghost use Rattle.packet_model.specs.Fields.{packet_with};
 ghost use Rattle.predicate_split.specs.Classes.{zero_packet};
+ghost use Rattle.predicate_split.specs.Stretches.{IsInStretch};
 
 use crate::left::{entries_at, named_by};
 use crate::pair_cells::Cell;
 use crate::pairs::{PlacedPred, holder};
 use crate::parts::{has_field, least_from};
+use crate::stretches::{Stretch, entries_within};
 use merlin_model::OutOfMemory;
 use merlin_model::policy::Field;
 use packet_model::Packet;
 use sqlite_items::Items;
 use std::alloc::Global;
+
+/// So many ports are not halved.
+const FEW: usize = 8;
 
 /// What a cell matches of a port, and the least port that stands for it. None is a star.
 #[derive(Clone, Copy)]
@@ -80,8 +88,36 @@ fn ports_by(
     Ok(Vec::new(alloc))
 }
 
-/// Adds the cells of a protocol and a source port with each of these destination ports.
-fn add_cells(
+/// What a packet has for a field of ports with this port.
+fn value_with(packet: Packet, field: Field, port: u16) -> u64
+    requires { IsPort field }
+    ensures value { result ≡ field_of field (packet_with packet field port) }
+    ensures few { result < 2 ^ 16 }
+{
+    let packet = packet.with(field, u64::from(port));
+    packet.value(field)
+}
+
+/// From what a packet has for a field with each of these ports: the least value, and one past the greatest.
+fn stretch_of(packet: Packet, field: Field, choices: &[Choice]) -> Stretch
+    requires { IsPort field }
+    ensures field { result.field ≡ field }
+    ensures each { AllByRecursion
+        (λ c. IsInStretch result (packet_with packet field c.value)) choices.now }
+{
+    let mut stretch = Stretch {
+        field,
+        low: 1 << 16,
+        past: 0,
+    };
+    for choice in choices {
+        stretch = stretch.with(value_with(packet, field, choice.value));
+    }
+    stretch
+}
+
+/// Adds the cells of a protocol and a source port with each of these destination ports, of which there are few.
+fn add_few_cells(
     alloc: Global,
     entries: &[PlacedPred],
     packet: Packet,
@@ -105,7 +141,48 @@ fn add_cells(
     Ok(())
 }
 
-/// The same, by what is left of the entries once the source port is fixed.
+/// Adds the cells of a protocol and a source port with each of these destination ports: half by half, each by what is left of the entries there, so that
+/// all tests are looked at as often as the ports can be halved.
+#[cycle(add_cells)]
+fn add_cells(
+    alloc: Global,
+    entries: &[PlacedPred],
+    packet: Packet,
+    sport: Choice,
+    dports: &[Choice],
+    cells: &mut Vec<Cell>,
+) -> Result<(), OutOfMemory>
+    ensures { OnOk result (cells.new.items ≡
+        cells.old.items ++ row_of entries.now packet sport dports.now) }
+{
+    if dports.len() <= FEW {
+        return add_few_cells(alloc, entries, packet, sport, dports, cells);
+    }
+    let (lower, upper) = dports.split_at(dports.len() / 2);
+    add_near_cells(alloc, entries, packet, sport, lower, cells)?;
+    add_near_cells(alloc, entries, packet, sport, upper, cells)
+}
+
+/// The same by what is left of the entries at these ports.
+#[cycle(add_cells)]
+fn add_near_cells(
+    alloc: Global,
+    entries: &[PlacedPred],
+    packet: Packet,
+    sport: Choice,
+    dports: &[Choice],
+    cells: &mut Vec<Cell>,
+) -> Result<(), OutOfMemory>
+    ensures { OnOk result (cells.new.items ≡
+        cells.old.items ++ row_of entries.now packet sport dports.now) }
+{
+    let fixed = packet.with(Field::Sport, u64::from(sport.value));
+    let stretch = stretch_of(fixed, Field::Dport, dports);
+    let near = entries_within(alloc, entries, stretch)?;
+    add_cells(alloc, near.as_slice(), packet, sport, dports, cells)
+}
+
+/// Adds the cells of a protocol and a source port, by what is left of the entries once it is fixed.
 fn add_row(
     alloc: Global,
     entries: &[PlacedPred],
@@ -122,7 +199,64 @@ fn add_row(
     add_cells(alloc, left.as_slice(), packet, sport, dports, cells)
 }
 
-/// Adds the cells of a protocol with each of these source ports and each of these destination ports.
+/// Adds the cells of a protocol with each of these source ports, of which there are few, and each of these destination ports.
+fn add_few_rows(
+    alloc: Global,
+    entries: &[PlacedPred],
+    packet: Packet,
+    sports: &[Choice],
+    dports: &[Choice],
+    cells: &mut Vec<Cell>,
+) -> Result<(), OutOfMemory>
+    ensures { OnOk result (cells.new.items ≡
+        cells.old.items ++ rows_of entries.now packet sports.now dports.now) }
+{
+    for sport in sports {
+        add_row(alloc, entries, packet, *sport, dports, cells)?;
+    }
+    Ok(())
+}
+
+/// Adds the cells of a protocol with each of these source ports and each of these destination ports, half by half of the source ports.
+#[cycle(add_all_rows)]
+fn add_all_rows(
+    alloc: Global,
+    entries: &[PlacedPred],
+    packet: Packet,
+    sports: &[Choice],
+    dports: &[Choice],
+    cells: &mut Vec<Cell>,
+) -> Result<(), OutOfMemory>
+    ensures { OnOk result (cells.new.items ≡
+        cells.old.items ++ rows_of entries.now packet sports.now dports.now) }
+{
+    if sports.len() <= FEW {
+        return add_few_rows(alloc, entries, packet, sports, dports, cells);
+    }
+    let (lower, upper) = sports.split_at(sports.len() / 2);
+    add_near_rows(alloc, entries, packet, lower, dports, cells)?;
+    add_near_rows(alloc, entries, packet, upper, dports, cells)
+}
+
+/// The same by what is left of the entries at these source ports.
+#[cycle(add_all_rows)]
+fn add_near_rows(
+    alloc: Global,
+    entries: &[PlacedPred],
+    packet: Packet,
+    sports: &[Choice],
+    dports: &[Choice],
+    cells: &mut Vec<Cell>,
+) -> Result<(), OutOfMemory>
+    ensures { OnOk result (cells.new.items ≡
+        cells.old.items ++ rows_of entries.now packet sports.now dports.now) }
+{
+    let stretch = stretch_of(packet, Field::Sport, sports);
+    let near = entries_within(alloc, entries, stretch)?;
+    add_all_rows(alloc, near.as_slice(), packet, sports, dports, cells)
+}
+
+/// Adds the cells of a grid with each of these source ports and each of these destination ports.
 pub(crate) fn add_rows(
     alloc: Global,
     grid: &Grid,
@@ -133,17 +267,14 @@ pub(crate) fn add_rows(
     ensures { OnOk result (cells.new.items ≡
         cells.old.items ++ rows_of grid.now.entries grid.now.packet sports.now dports.now) }
 {
-    for sport in sports {
-        add_row(
-            alloc,
-            grid.entries.as_slice(),
-            grid.packet,
-            *sport,
-            dports,
-            cells,
-        )?;
-    }
-    Ok(())
+    add_all_rows(
+        alloc,
+        grid.entries.as_slice(),
+        grid.packet,
+        sports,
+        dports,
+        cells,
+    )
 }
 
 /// The ports that are told apart under a protocol.

@@ -11,6 +11,7 @@ mod left;
 mod pair_cells;
 mod pairs;
 mod parts;
+mod stretches;
 mod witness;
 
 pub use between::holds_between;

@@ -1,3 +1,16 @@
 pub mod Spelling
 pub mod Standing
 pub mod Walking
+pub mod Lists
+pub mod Following
+pub mod Numbers
+pub mod Placing
+pub mod Noting
+pub mod Returning
+pub mod Keeping
+pub mod Starting
+pub mod Joins
+pub mod Bridging
+pub mod Listing
+pub mod Trimming
+pub mod Ordered

@@ -1,3 +1,10 @@
 pub mod Inside
+pub mod Followers
+pub mod Numbered
+pub mod Reversed
+pub mod Finding
 pub mod Products
+pub mod Ends
+pub mod Joining
+pub mod Kept
 pub mod Walks

@@ -49,7 +49,7 @@ path-few variables n ks from to p =
     let a = all-ones variables in
     omega (arith, s, e, a)
 
-small-sum : (f : Variable → ℕ) (vs : List Variable) → AllByRecursion (λ v. f v ≤ 10 ^ 9) vs → sum_by f vs ≤ length vs * 10 ^ 9
+pub small-sum : (f : Variable → ℕ) (vs : List Variable) → AllByRecursion (λ v. f v ≤ 10 ^ 9) vs → sum_by f vs ≤ length vs * 10 ^ 9
 small-sum f [] all = omega arith
 small-sum f (v ∷ vs) all = let s = sum_by-cons f v vs in let h = small-sum f vs all.1 in more _ _ _ _ s all.0 h
   where

@@ -6,3 +6,6 @@ pub mod Bridging
 pub mod Taking
 pub mod Together
 pub mod Spelling
+pub mod Dropping
+pub mod Existing
+pub mod Valuing

@@ -3,3 +3,4 @@ pub mod Paths
 pub mod Followed
 pub mod Marks
 pub mod Solutions
+pub mod Loads

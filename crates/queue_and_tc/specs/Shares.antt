@@ -1,8 +1,8 @@
 -- What each statement is at a host, over the sources as the code has them.
-use Rattle.std.specs.Prelude.{ℕ, ◌+◌, ◌≤◌, Bool, List, filter, map, length, None, Some, Vec, if◌then◌else◌}
+use Rattle.std.specs.Prelude.{ℕ, ◌≢◌, ◌+◌, ◌≤◌, Bool, List, filter, map, length, None, Some, Vec, if◌then◌else◌}
 use Rattle.std.specs.List.{range_with_len}
 use Rattle.std.specs.declared.alloc.Global.{Global}
-use Rattle.merlin_model.specs.Networks.{Network}
+use Rattle.merlin_model.specs.Networks.{Network, IsHost}
 use Rattle.merlin_model.specs.Policies.{Policy, paths_of}
 use Rattle.predicate_split.specs.declared.pair_cells.Cell.{Cell}
 use Rattle.predicate_split.specs.Cells.{cells_between}
@@ -24,7 +24,7 @@ pair_cells net policy s d = cells_between (preds_of policy) (host_at net s) (hos
 
 -- no two hosts have more cells than there may be
 abbrev pub HasFewCells : Network → Policy → Type 0
-HasFewCells net policy = (s d : ℕ) → length (pair_cells net policy s d) ≤ MAX_CELLS
+HasFewCells net policy = (s d : ℕ) → IsHost net s → IsHost net d → s ≢ d → length (pair_cells net policy s d) ≤ MAX_CELLS
 
 -- whether statement i has a class at host s
 abbrev pub has_class : Network → Policy → Sources → ℕ → ℕ → Bool

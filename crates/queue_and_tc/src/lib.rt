@@ -3,6 +3,7 @@
 
 mod host_texts;
 mod hosts;
+pub mod laws;
 mod links;
 mod rates;
 mod reaches;

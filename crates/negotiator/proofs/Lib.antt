@@ -1,0 +1,4 @@
+pub mod StandingIn
+pub mod Walking
+pub mod Finding
+pub mod Straying

@@ -1,0 +1,6 @@
+use Rattle.std.proofs.Common.{◌≡◌, ◌+◌, ◌++◌, [], take, drop}
+use Rattle.negotiator.specs.Contacts.{IsFoundUpTo, first_holding}
+use Rattle.negotiator.proofs.contacts.note_packets.Given as goal
+
+abbrev pub invariant-loop-packet : goal.invariant-loop-packet
+invariant-loop-packet l = IsFoundUpTo l.case.net.now l.case.parent.now.policy l.case.child.now.policy l.src l.dst [] l.initial.found → IsFoundUpTo l.case.net.now l.case.parent.now.policy l.case.child.now.policy l.src l.dst (take l.packet-index l.packets) l.found

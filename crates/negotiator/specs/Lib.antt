@@ -1,0 +1,4 @@
+pub mod StandIns
+pub mod Between
+pub mod Contacts
+pub mod Wider

@@ -1,0 +1,10 @@
+use Rattle.std.proofs.Common.{◌≡◌, ◌≤◌, map, sum_by, drop, length}
+use Rattle.merlin_model.specs.Assignments.{greatest_ratio}
+use Rattle.program_walks.specs.Loads.{ratio_on_link}
+use Rattle.program_walks.proofs.values.greatest_ratio_of.Given as goal
+
+abbrev pub invariant-loop-link : goal.invariant-loop-link
+invariant-loop-link l = (l.link ≤ length l.problem.links) × (l.greatest ≡ greatest_ratio (map (ratio_on_link l.problem l.walks) (drop l.link l.problem.links)))
+
+abbrev pub decreases-loop-link : goal.decreases-loop-link
+decreases-loop-link l = l.link

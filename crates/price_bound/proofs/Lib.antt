@@ -9,3 +9,5 @@ pub mod Flat
 pub mod Costing
 pub mod Flooring
 pub mod Looking
+pub mod Lightening
+pub mod Loading

@@ -4,3 +4,4 @@ pub mod Graphs
 pub mod Spreads
 pub mod Priced
 pub mod Numbers
+pub mod Loads

@@ -5,6 +5,7 @@ mod costs;
 mod floors;
 mod flow_graph;
 mod leaf;
+mod loads;
 mod measure;
 mod numbers;
 mod permitted;

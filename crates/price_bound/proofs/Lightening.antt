@@ -1,5 +1,5 @@
 -- Loads that fit on a link are light.
-use Rattle.std.proofs.Common.{◌≡◌, ◌≢◌, ℕ, zero, suc, ◌+◌, ◌*◌, ◌≤◌, ◌<◌, ◌^◌, ◌==◌, ◌||◌, ◌⊎◌, inl, inr, Bool, true, false, cond, pos, ◌≤ℤ◌, List, [], ◌∷◌, ◌++◌, drop, length, get_or, sum, Contains, Option, None, Some, slice_get, refl, sym, ◌∙◌, ap, subst, arith}
+use Rattle.std.proofs.Common.{◌≡◌, ℕ, suc, ◌+◌, ◌≤◌, ◌<◌, ◌==◌, ◌||◌, Bool, true, false, cond, pos, ◌≤ℤ◌, List, [], ◌∷◌, length, sum, Option, None, Some, slice_get, refl, sym, ◌∙◌, ap, arith}
 use Rattle.std.proofs.lemmas.Int.{ints}
 use Rattle.std.proofs.lemmas.Option.{slice_get_within}
 use Rattle.std.proofs.lemmas.List.Sums.{sum_by-cons}
@@ -7,19 +7,19 @@ use Rattle.std.specs.List.{AllByRecursion}
 use Rattle.merlin_model.specs.declared.policy.Value.{Value}
 use Rattle.merlin_model.specs.Programs.{is_chosen}
 use Rattle.merlin_model.specs.Trees.{fixed_at}
-use Rattle.merlin_model.proofs.Members.{In, in_from, in_to, in_append-left, in_append-right}
+use Rattle.merlin_model.proofs.Members.{In, in_to, in_append-left, in_append-right}
 use Rattle.cutoff_program.specs.declared.flow.Problem.{Problem}
 use Rattle.cutoff_program.specs.declared.flow.Flow.{Flow}
 use Rattle.cutoff_program.specs.declared.flow.Variable.{Variable}
 use Rattle.cutoff_program.specs.Flows.{variables_of, last_of, rate_over, count_if, taken_from, room}
-use Rattle.cutoff_program.specs.Trails.{IsTrailOf, IsPath, sum_along, edges_of, point_with}
-use Rattle.cutoff_program.specs.Easy.{MayIn, EachFlowHas, fixed_from, rate_if_fixed, IsTrailThrough}
+use Rattle.cutoff_program.specs.Trails.{edges_of, point_with}
+use Rattle.cutoff_program.specs.Easy.{EachFlowHas, fixed_from, rate_if_fixed}
 use Rattle.cutoff_program.proofs.Points.{point-sum, chosen-in, trail-different}
-use Rattle.graph_search.proofs.Places.{none-some, some-same}
+use Rattle.graph_search.proofs.Places.{some-same}
 use Rattle.price_candidates.specs.Leaves.{capacity_at}
 use Rattle.price_candidates.specs.Tried.{is_fixed_to_one, IsLeastPath, IsNoLess, IsLight}
 use Rattle.price_candidates.proofs.Points.{trail-at, all-from}
-use Rattle.price_bound.specs.Loads.{is_taken, sum_where, load_on, IsOfPaths}
+use Rattle.price_bound.specs.Loads.{is_loaded, sum_where, load_on, IsOfPaths}
 
 -- what a flow's variable puts on a link
 abbrev of_flow : ℕ → ℕ → Variable → ℕ
@@ -39,7 +39,7 @@ taken-where test f g k (v ∷ vs) p h = by (is_chosen p k) refl (taken-where tes
     by false e ih = omega arith
 
 -- What is fixed of a flow adds no more than all of it.
-fixed-where : (problem : Problem) (cutoff : Option Value) (box : List (Option Bool)) (point : List Bool) (n link k : ℕ) (vs : List Variable) → fixed_from problem cutoff box n link k vs ≤ sum_where (is_taken point box) (of_flow n link) k vs
+fixed-where : (problem : Problem) (cutoff : Option Value) (box : List (Option Bool)) (point : List Bool) (n link k : ℕ) (vs : List Variable) → fixed_from problem cutoff box n link k vs ≤ sum_where (is_loaded point box) (of_flow n link) k vs
 fixed-where problem cutoff box point n link k [] = omega arith
 fixed-where problem cutoff box point n link k (v ∷ vs) =
     let ih = fixed-where problem cutoff box point n link (k + 1) vs in
@@ -108,16 +108,16 @@ module _ (test : ℕ → Bool) (link : ℕ) where
       omega arith
 
 module _ (problem : Problem) (cutoff : Option Value) (box : List (Option Bool)) (point : List Bool) (link : ℕ) (at : ℕ → ℕ → ℕ) where
-  chosen-taken : (k : ℕ) → is_chosen point k ≡ true → is_taken point box k ≡ true
+  chosen-taken : (k : ℕ) → is_chosen point k ≡ true → is_loaded point box k ≡ true
   chosen-taken k e = ap (λ b. b || is_fixed_to_one (fixed_at box k)) e
 
-  path-no-less : (n : ℕ) (flow : Flow) (path : List ℕ) → IsLeastPath problem cutoff box at n flow path → ((k : ℕ) → In k path → is_chosen point k ≡ true) → IsNoLess problem cutoff box link n flow (sum_where (is_taken point box) (of_flow n link) 0 (variables_of problem))
+  path-no-less : (n : ℕ) (flow : Flow) (path : List ℕ) → IsLeastPath problem cutoff box at n flow path → ((k : ℕ) → In k path → is_chosen point k ≡ true) → IsNoLess problem cutoff box link n flow (sum_where (is_loaded point box) (of_flow n link) 0 (variables_of problem))
   path-no-less n flow path is all = record {
     trail = path;
     through = record { steps = is.is_path.steps; allowed = is.allowed };
     of_trail =
         let s = point-sum (variables_of problem) (rate_over link) path low (trail-different (variables_of problem) n path 0 (last_of flow) is.is_path.steps is.is_path.simple.1) in
-        let t = taken-where (is_taken point box) (rate_over link) (of_flow n link) 0 (variables_of problem) (point_with (length (variables_of problem)) path) each in
+        let t = taken-where (is_loaded point box) (rate_over link) (of_flow n link) 0 (variables_of problem) (point_with (length (variables_of problem)) path) each in
         omega arith;
     of_fixed = fixed-where problem cutoff box point n link 0 (variables_of problem);
   }
@@ -129,7 +129,7 @@ module _ (problem : Problem) (cutoff : Option Value) (box : List (Option Bool)) 
       of v h true e = omega arith
       of v h false e = let bad : ⊥ = grind arith in absurd bad
 
-      each : (j i : ℕ) (v : Variable) → i ≡ 0 + j → slice_get (variables_of problem) j ≡ Some v → is_chosen (point_with (length (variables_of problem)) path) i ≡ true → (is_taken point box i ≡ true) × (rate_over link v ≤ of_flow n link v)
+      each : (j i : ℕ) (v : Variable) → i ≡ 0 + j → slice_get (variables_of problem) j ≡ Some v → is_chosen (point_with (length (variables_of problem)) path) i ≡ true → (is_loaded point box i ≡ true) × (rate_over link v ≤ of_flow n link v)
       each j i v e s c =
           let inside = chosen-in (length (variables_of problem)) path i c in
           let t = trail-at (variables_of problem) n path 0 (last_of flow) i is.is_path.steps inside in
@@ -138,7 +138,7 @@ module _ (problem : Problem) (cutoff : Option Value) (box : List (Option Bool)) 
           (chosen-taken i (all i inside), of v (ap (λ (w : Variable). w.flow) (sym same) ∙ t.2) (v.flow == n) refl)
 
   each-no-less : (n : ℕ) (flows : List Flow) (paths : List (List ℕ)) → EachFlowHas (IsLeastPath problem cutoff box at) n flows paths → ((k : ℕ) → In k (edges_of paths) → is_chosen point k ≡ true) →
-      EachFlowHas (IsNoLess problem cutoff box link) n flows (by_flow (is_taken point box) link 0 (variables_of problem) n flows)
+      EachFlowHas (IsNoLess problem cutoff box link) n flows (by_flow (is_loaded point box) link 0 (variables_of problem) n flows)
   each-no-less n [] [] each all = tt
   each-no-less n [] (path ∷ paths) each all = absurd each
   each-no-less n (flow ∷ flows) [] each all = absurd each
@@ -150,7 +150,7 @@ module _ (problem : Problem) (cutoff : Option Value) (box : List (Option Bool)) 
 -- A load that fits is light.
 pub fits-light : (problem : Problem) (cutoff : Option Value) (box : List (Option Bool)) (point : List Bool) (link : ℕ) → IsOfPaths problem cutoff box point → pos (load_on problem point box link) ≤ℤ room problem.objective cutoff (capacity_at problem link) → IsLight problem cutoff box link
 fits-light problem cutoff box point link is h = record {
-  loads = by_flow (is_taken point box) link 0 (variables_of problem) 0 problem.flows;
+  loads = by_flow (is_loaded point box) link 0 (variables_of problem) 0 problem.flows;
   are_loads = each-no-less problem cutoff box point link is.at 0 problem.flows is.paths is.tried.are_paths (λ k i. (is.of.chosen k).1 (in_to (edges_of is.paths) k i));
-  fits = let s = sum-by-flow (is_taken point box) link 0 (variables_of problem) 0 problem.flows in omega (arith, ints);
+  fits = let s = sum-by-flow (is_loaded point box) link 0 (variables_of problem) 0 problem.flows in omega (arith, ints);
 }

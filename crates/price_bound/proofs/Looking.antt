@@ -9,6 +9,7 @@ use Rattle.graph_search.proofs.Places.{none-some, some-same}
 use Rattle.price_candidates.specs.Leaves.{AreSmallNumbers, flow_weights}
 use Rattle.price_candidates.specs.Tried.{IsUnreached, IsLeastPath, IsTried, only}
 use Rattle.price_bound.specs.declared.costs.Costs.{Costs}
+use Rattle.price_bound.specs.Loads.{IsOfPaths}
 use Rattle.price_bound.specs.Numbers.{AreCosts, EachIsReached}
 
 pub cut-small : (problem : Problem) (cutoff : Option Value) (box : List (Option Bool)) (n : ℕ) (flow : Flow) (at : ℕ → ℕ) → IsUnreached problem cutoff box n flow at → AreSmallNumbers (only n at)
@@ -41,8 +42,12 @@ module _ (problem : Problem) (cutoff : Option Value) (box : List (Option Bool)) 
   pub costs-tried : IsTried problem cutoff box are.at are.paths
   costs-tried = record { are_paths = paths-are; costs = are.small }
 
-  pub all-reached : EachIsReached problem cutoff box
-  all-reached n flow stands =
-      let p = each-get (IsLeastPath problem cutoff box are.at) 0 n problem.flows are.paths flow paths-are stands in
-      let l = subst (λ m. IsLeastPath problem cutoff box are.at m flow p.0) (let e : 0 + n ≡ n = omega arith in e) p.1 in
-      (p.0, record { steps = l.is_path.steps; allowed = l.allowed })
+  pub costs-of : IsOfPaths problem cutoff box costs.point
+  costs-of = record { at = are.at; paths = are.paths; tried = costs-tried; of = are.of }
+
+-- where there are paths of least cost each flow is reached
+pub all-reached : (problem : Problem) (cutoff : Option Value) (box : List (Option Bool)) (point : List Bool) → IsOfPaths problem cutoff box point → EachIsReached problem cutoff box
+all-reached problem cutoff box point is n flow stands =
+    let p = each-get (IsLeastPath problem cutoff box is.at) 0 n problem.flows is.paths flow is.tried.are_paths stands in
+    let l = subst (λ m. IsLeastPath problem cutoff box is.at m flow p.0) (let e : 0 + n ≡ n = omega arith in e) p.1 in
+    (p.0, record { steps = l.is_path.steps; allowed = l.allowed })

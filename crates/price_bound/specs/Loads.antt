@@ -9,8 +9,8 @@ use Rattle.cutoff_program.specs.Flows.{variables_of, rate_over, count_if}
 use Rattle.price_candidates.specs.Tried.{is_fixed_to_one, IsTried, HasEdgesOf}
 
 -- the point chooses the variable, or the box fixes it to 1
-abbrev pub is_taken : List Bool → List (Option Bool) → ℕ → Bool
-is_taken point box k = is_chosen point k || is_fixed_to_one (fixed_at box k)
+abbrev pub is_loaded : List Bool → List (Option Bool) → ℕ → Bool
+is_loaded point box k = is_chosen point k || is_fixed_to_one (fixed_at box k)
 
 -- the sum of some terms over the variables for which a test holds, the first of which has number k
 abbrev pub sum_where : (ℕ → Bool) → (Variable → ℕ) → ℕ → List Variable → ℕ
@@ -18,7 +18,7 @@ sum_where test f k [] = 0
 sum_where test f k (v ∷ vs) = count_if (test k) (f v) + sum_where test f (k + 1) vs
 
 abbrev pub load_on : Problem → List Bool → List (Option Bool) → ℕ → ℕ
-load_on problem point box link = sum_where (is_taken point box) (rate_over link) 0 (variables_of problem)
+load_on problem point box link = sum_where (is_loaded point box) (rate_over link) 0 (variables_of problem)
 
 -- the load of each link
 pub record AreLoads (problem : Problem) (point : List Bool) (box : List (Option Bool)) (loads : List ℕ) : Type 0 where
@@ -31,3 +31,9 @@ pub record IsOfPaths (problem : Problem) (cutoff : Option Value) (box : List (Op
   pub paths : List (List ℕ)
   pub tried : IsTried problem cutoff box at paths
   pub of : HasEdgesOf problem paths point
+
+-- what such a point and the box put on a link
+pub record IsLoadOf (problem : Problem) (cutoff : Option Value) (box : List (Option Bool)) (link load : ℕ) : Type 0 where
+  pub point : List Bool
+  pub of : IsOfPaths problem cutoff box point
+  pub is : load ≡ load_on problem point box link

@@ -12,8 +12,8 @@ use Rattle.cutoff_program.specs.Easy.{EachFlowHas, IsTrailThrough, MayIn}
 use Rattle.price_candidates.specs.Leaves.{flow_weights, AreSmallNumbers}
 use Rattle.price_candidates.specs.Tried.{IsLeastPath, IsFloorAt, IsUnreached, HasEdgesOf, HasFailed, IsLight, IsTried, leaf_by_costs, one_weight, only}
 use Rattle.price_bound.specs.declared.costs.Costs.{Costs}
-use Rattle.price_bound.specs.declared.costs.Found.{Found}
-use Rattle.price_bound.specs.declared.costs.Found.TheVariants.{Cut, Paths}
+use Rattle.price_bound.specs.declared.costs.CostsFound.{CostsFound}
+use Rattle.price_bound.specs.declared.costs.CostsFound.TheVariants.{Cut, Paths}
 
 -- those of one flow
 abbrev pub numbers_at : (ℕ → ℕ → ℕ) → ℕ → Flow → List ℕ
@@ -48,7 +48,7 @@ abbrev pub IsAdded : Problem → Option Value → List (Option Bool) → ℕ →
 IsAdded problem cutoff box n costs (Some numbers) = IsCutAt problem cutoff box numbers
 IsAdded problem cutoff box n costs None = AreCosts problem cutoff box (n + 1) costs
 
-abbrev pub ArePathsFound : Problem → Option Value → List (Option Bool) → Found → Type 0
+abbrev pub ArePathsFound : Problem → Option Value → List (Option Bool) → CostsFound → Type 0
 ArePathsFound problem cutoff box (Cut numbers) = IsCutAt problem cutoff box numbers
 ArePathsFound problem cutoff box (Paths costs) = AreCosts problem cutoff box (length problem.flows) costs
 
@@ -69,9 +69,9 @@ abbrev pub EachIsReached : Problem → Option Value → List (Option Bool) → T
 EachIsReached problem cutoff box =
     (n : ℕ) (flow : Flow) → slice_get problem.flows n ≡ Some flow → (trail : List ℕ) × IsTrailThrough problem (MayIn problem cutoff box) n flow trail
 
--- and the same of a link: weights that refute, or what was tried does not
+-- and the same of a link: weights that refute, or what was tried does not, or it need not be tried
 abbrev pub IsLinkTried : Problem → Option Value → List (Option Bool) → ℕ → Option (List Weight) → Type 0
-IsLinkTried problem cutoff box link None = HasFailed problem cutoff box link
+IsLinkTried problem cutoff box link None = HasFailed problem cutoff box link ⊎ IsLight problem cutoff box link
 IsLinkTried problem cutoff box link (Some weights) = RefutesBox (program_at problem cutoff) box weights
 
 abbrev pub AreLinksTried : Problem → Option Value → List (Option Bool) → Option (List Weight) → Type 0

@@ -25,7 +25,7 @@ pub struct Costs {
 
 /// Numbers at vertices that show that a flow has no path, or the costs of all.
 #[derive(Drop)]
-pub enum Found {
+pub enum CostsFound {
     Cut(Items<u64>),
     Paths(Costs),
 }
@@ -84,7 +84,7 @@ pub fn find(
     program: &MerlinProgram,
     cutoff: Option<&Value>,
     fixed: &Fixed,
-) -> Result<Found, OutOfMemory>
+) -> Result<CostsFound, OutOfMemory>
     requires { IsBoxAsked program.now.problem (option_copied cutoff) fixed.now }
     ensures { let at = option_copied cutoff.entry in
         IfOk result (ArePathsFound program.now.problem at fixed.now) }
@@ -92,8 +92,8 @@ pub fn find(
     let mut costs = no_costs(alloc, program)?;
     for flow in 0..program.problem().flows.len() {
         if let Some(numbers) = add_flow(alloc, program, cutoff, fixed, flow, &mut costs)? {
-            return Ok(Found::Cut(numbers));
+            return Ok(CostsFound::Cut(numbers));
         }
     }
-    Ok(Found::Paths(costs))
+    Ok(CostsFound::Paths(costs))
 }

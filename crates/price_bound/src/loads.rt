@@ -6,7 +6,7 @@ ghost use Rattle.merlin_model.specs.Programs.{Takes};
 ghost use Rattle.cutoff_program.specs.Flows.{variables_of, rate_over, room, takes};
 ghost use Rattle.merlin_program.specs.Kept.{variable_at};
 ghost use Rattle.price_candidates.specs.Leaves.{capacity_at};
-ghost use Rattle.price_bound.specs.Loads.{is_taken, AreLoads};
+ghost use Rattle.price_bound.specs.Loads.{is_loaded, AreLoads};
 
 use integer_program::{Fixed, Program};
 use merlin_model::OutOfMemory;
@@ -16,10 +16,10 @@ use sqlite_items::Items;
 use std::alloc::Global;
 
 // Whether a point chooses a variable, or a box fixes it to 1.
-fn is_taken(point: &[bool], fixed: &Fixed, variable: usize) -> bool
+fn is_loaded(point: &[bool], fixed: &Fixed, variable: usize) -> bool
     requires point { variable < length point.now }
     requires fixed { variable < length fixed.now }
-    ensures { result ≡ is_taken point.now fixed.now variable }
+    ensures { result ≡ is_loaded point.now fixed.now variable }
 {
     match fixed.get(variable) {
         Some(true) => true,
@@ -62,14 +62,34 @@ pub fn loads_of(
     requires fixed { length fixed.now ≡ length (variables_of program.now.problem) }
     requires point { length point.now ≡ length (variables_of program.now.problem) }
     ensures loads { IfOk result (AreLoads program.now.problem point.now fixed.now) }
+    ensures small { IfOk result (λ loads. (link : ℕ) → slice_index_or loads link 0 < 2 ^ 62) }
 {
     let mut loads = no_loads(alloc, program.problem().links.len())?;
     for variable in 0..program.variables() {
-        if is_taken(point, fixed, variable) {
+        if is_loaded(point, fixed, variable) {
             add_load(&mut loads, program, variable);
         }
     }
     Ok(loads)
+}
+
+// What a cutoff leaves of the capacity of a link.
+fn room_on(program: &MerlinProgram, cutoff: Option<&Value>, link: usize) -> i64
+    requires takes { Takes (takes program.now.problem.objective) (option_copied cutoff) }
+    requires in_range { link < length program.now.problem.links }
+    ensures { let problem = program.now.problem in
+        result ≡ room problem.objective (option_copied cutoff.entry) (capacity_at problem link) }
+{
+    let flow_rows = program.rows() - 1 - program.problem().links.len();
+    program.right(flow_rows + link, cutoff)
+}
+
+// Whether a load is at most a right side.
+fn is_at_most(load: u64, right: i64) -> bool
+    requires { load < 2 ^ 62 }
+    ensures { IsTrue result ↔ (pos load ≤ℤ right) }
+{
+    load as i64 <= right
 }
 
 /// Whether a load fits on a link at a cutoff.
@@ -81,6 +101,5 @@ pub fn fits(program: &MerlinProgram, cutoff: Option<&Value>, link: usize, load: 
         let most = room problem.objective (option_copied cutoff.entry) (capacity_at problem link) in
         IsTrue result ↔ (pos load ≤ℤ most) }
 {
-    let row = program.rows() - 1 - program.problem().links.len() + link;
-    load as i64 <= program.right(row, cutoff)
+    is_at_most(load, room_on(program, cutoff, link))
 }

@@ -8,7 +8,7 @@ ghost use Rattle.cutoff_program.specs.Flows.{variables_of, program_at};
 ghost use Rattle.price_bound.specs.Asked.{IsBoxAsked, IsLawfulAt};
 ghost use Rattle.price_bound.specs.Numbers.{AreCosts, ArePricesTried, DoNotRefute, IsCutAt};
 
-use crate::costs::{Costs, Found, find};
+use crate::costs::{Costs, CostsFound, find};
 use crate::leaf::{Priced, leaf};
 use crate::tried::{try_lengths, try_links, try_rows};
 use certificate::Workspace;
@@ -87,7 +87,14 @@ fn by_links(
         let at = option_copied cutoff.entry in
         IfOk result (IsLawfulAt problem at fixed.now) }
 {
-    match try_links(alloc, program, cutoff, fixed, workspace)? {
+    match try_links(
+        alloc,
+        program,
+        cutoff,
+        fixed,
+        workspace,
+        costs.point.as_slice(),
+    )? {
         Some(weights) => Ok(Verdict::Closed(weights)),
         None => by_point(alloc, program, cutoff, fixed, workspace, costs.point),
     }
@@ -160,8 +167,8 @@ fn look_at(
         IfOk result (IsLawfulAt problem at fixed.now) }
 {
     match find(alloc, program, cutoff, fixed)? {
-        Found::Cut(numbers) => closed_by_cut(alloc, program, cutoff, fixed, numbers),
-        Found::Paths(costs) => by_costs(alloc, program, cutoff, fixed, workspace, costs),
+        CostsFound::Cut(numbers) => closed_by_cut(alloc, program, cutoff, fixed, numbers),
+        CostsFound::Paths(costs) => by_costs(alloc, program, cutoff, fixed, workspace, costs),
     }
 }
 

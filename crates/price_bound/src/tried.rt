@@ -1,16 +1,18 @@
 //! Leaves that are tried, each by the sum of its rows.
 
-ghost use Rattle.std.specs.Prelude.{ℕ, ℤ, ◌≡◌, ◌<◌, ◌⊎◌, pos, negsuc, length, None, IfOk};
+ghost use Rattle.std.specs.Prelude.{ℕ, ℤ, ◌≡◌, ◌<◌, ◌^◌, ◌⊎◌, pos, negsuc, length, None, IfOk};
 ghost use Rattle.std.specs.Option.{option_copied};
 ghost use Rattle.cutoff_program.specs.Flows.{variables_of, program_at};
 ghost use Rattle.price_candidates.specs.Leaves.{AreSmallNumbers, flow_weights, leaf_from};
 ghost use Rattle.price_candidates.specs.Tried.{leaf_by_costs, one_weight};
+ghost use Rattle.price_bound.specs.Loads.{IsLoadOf, IsOfPaths};
 ghost use Rattle.price_bound.specs.Asked.{IsBoxAsked};
 ghost use Rattle.price_bound.specs.Numbers.{AreNumbers, EachIsReached, IsLeafTried, IsLinkTried, AreLinksTried, IsRowTried, AreRowsTried};
 ghost use Rattle.price_bound.specs.Priced.{pricing_of, IsPricedIn};
 
 use crate::floors::floors_on;
 use crate::leaf::{Priced, leaf};
+use crate::loads::{fits, loads_of};
 use crate::numbers::push_zeros;
 use certificate::{Workspace, leaf_refutes};
 use integer_program::{Fixed, Program};
@@ -96,7 +98,7 @@ pub fn try_lengths(
     }
 }
 
-// What is tried of a link, if it refutes the box.
+// What is tried of a link, if it refutes the box. Where what least paths put there with what is fixed fits, it cannot.
 fn try_link(
     alloc: Global,
     program: &MerlinProgram,
@@ -104,15 +106,21 @@ fn try_link(
     fixed: &Fixed,
     workspace: &mut Workspace,
     link: usize,
+    load: u64,
 ) -> Result<Option<Items<Weight>>, OutOfMemory>
     requires asked { IsBoxAsked program.now.problem (option_copied cutoff) fixed.now }
     requires room { workspace.old ≡ length (variables_of program.now.problem) }
     requires reached { EachIsReached program.now.problem (option_copied cutoff) fixed.now }
     requires in_range { link < length program.now.problem.links }
+    requires small { load < 2 ^ 62 }
+    requires load { IsLoadOf program.now.problem (option_copied cutoff) fixed.now link load }
     ensures same { workspace.new ≡ workspace.old }
     ensures tried { let at = option_copied cutoff.entry in
         IfOk result (IsLinkTried program.now.problem at fixed.now link) }
 {
+    if fits(program, cutoff, link, load) {
+        return Ok(None);
+    }
     let numbers = floors_on(alloc, program, cutoff, fixed, link)?;
     try_leaf(
         alloc,
@@ -125,23 +133,25 @@ fn try_link(
     )
 }
 
-/// What is tried of the first link that refutes the box.
+/// What is tried of the first link that refutes the box, where a point has the edges of paths of least cost.
 pub fn try_links(
     alloc: Global,
     program: &MerlinProgram,
     cutoff: Option<&Value>,
     fixed: &Fixed,
     workspace: &mut Workspace,
+    point: &[bool],
 ) -> Result<Option<Items<Weight>>, OutOfMemory>
     requires asked { IsBoxAsked program.now.problem (option_copied cutoff) fixed.now }
     requires room { workspace.old ≡ length (variables_of program.now.problem) }
-    requires reached { EachIsReached program.now.problem (option_copied cutoff) fixed.now }
+    requires paths { IsOfPaths program.now.problem (option_copied cutoff) fixed.now point.now }
     ensures same { workspace.new ≡ workspace.old }
     ensures tried { let at = option_copied cutoff.entry in
         IfOk result (AreLinksTried program.now.problem at fixed.now) }
 {
-    for link in 0..program.problem().links.len() {
-        if let Some(weights) = try_link(alloc, program, cutoff, fixed, workspace, link)? {
+    let loads = loads_of(alloc, program, fixed, point)?;
+    for (link, load) in loads.as_slice().iter().enumerate() {
+        if let Some(weights) = try_link(alloc, program, cutoff, fixed, workspace, link, *load)? {
             return Ok(Some(weights));
         }
     }

@@ -1,7 +1,7 @@
 -- The line of a host, part by part, with what stands behind it.
-use Rattle.std.proofs.Common.{◌≡◌, ◌≢◌, ℕ, ◌<◌, Bool, true, false, List, [], ◌∷◌, ◌++◌, refl, sym, ◌∙◌, ap, append_assoc, append-nil, arith}
+use Rattle.std.proofs.Common.{◌≡◌, ℕ, true, false, List, [], ◌∷◌, ◌++◌, refl, sym, ◌∙◌, ap, append_assoc, append-nil, arith}
 use Rattle.std.specs.Prelude.{Option, None, Some, codes}
-use Rattle.std.specs.List.{flat_map, join_with_byte}
+use Rattle.std.specs.List.{flat_map}
 use Rattle.std.specs.Fmt.{decimal, digits}
 use Rattle.merlin_model.specs.declared.config.HostMatch.{HostMatch}
 use Rattle.merlin_model.specs.declared.config.HostLine.{HostLine}
@@ -14,7 +14,7 @@ use Rattle.config_text.proofs.Joining.{joined_after_first}
 use Rattle.config_lines.specs.Words.{IsOptional, IsLocation}
 use Rattle.config_lines.specs.Parts.{IsHostMatch}
 use Rattle.config_lines.specs.Lines.{IsClass, AreHostNumbers, host_line, IsHostLine}
-use Rattle.config_lines.specs.Hosts.{option_then, ports_then, ports_of, match_then, target_then, postrouting, host_then}
+use Rattle.config_lines.specs.Hosts.{option_then, ports_then, match_then, target_then, postrouting, host_then}
 use Rattle.config_lines.proofs.Then.{behind_word, behind_part, location_free}
 
 -- words, each with a blank before it

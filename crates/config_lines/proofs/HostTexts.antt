@@ -1,8 +1,8 @@
 -- The lines of hosts are told apart.
-use Rattle.std.proofs.Common.{◌≡◌, ◌≢◌, ℕ, ◌<◌, Bool, true, false, List, [], ◌∷◌, ◌++◌, refl, sym, ◌∙◌, ap, append_assoc, arith}
+use Rattle.std.proofs.Common.{◌≡◌, ℕ, Bool, false, List, ◌∷◌, ◌++◌, refl, sym, ◌∙◌, arith}
 use Rattle.std.proofs.lemmas.List.{append_cancel_left}
 use Rattle.std.specs.Prelude.{Option, None, Some, codes}
-use Rattle.std.specs.Fmt.{decimal, digits}
+use Rattle.std.specs.Fmt.{digits}
 use Rattle.merlin_model.specs.declared.config.HostMatch.{HostMatch}
 use Rattle.merlin_model.specs.declared.config.HostLine.{HostLine}
 use Rattle.merlin_model.specs.declared.config.HostLine.TheVariants as on_host

@@ -1,4 +1,4 @@
-use Rattle.std.proofs.Common.{◌≡◌, ◌∷◌, ◌∙◌, [], ap, sym, arith}
+use Rattle.std.proofs.Common.{◌∷◌, ◌∙◌, [], ap, sym, arith}
 use Rattle.std.proofs.lemmas.Fmt.{hex_one_digit}
 use Rattle.config_lines.proofs.classes.first_digit.Goals as goal
 

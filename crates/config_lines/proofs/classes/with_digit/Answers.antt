@@ -1,4 +1,4 @@
-use Rattle.std.proofs.Common.{◌≡◌, ◌++◌, ◌∷◌, ◌∙◌, [], false, ap, sym, arith}
+use Rattle.std.proofs.Common.{◌++◌, ◌∷◌, ◌∙◌, [], false, ap, sym, arith}
 use Rattle.std.specs.Fmt.{digits}
 use Rattle.config_lines.proofs.ClassTexts.{digit_more}
 use Rattle.config_lines.proofs.classes.with_digit.Goals as goal

@@ -1,4 +1,4 @@
-use Rattle.std.proofs.Common.{◌∷◌, ◌++◌, arith}
+use Rattle.std.proofs.Common.{◌∷◌, ◌++◌}
 use Rattle.std.specs.Fmt.{decimal}
 use Rattle.config_lines.proofs.Then.{behind_word, within_double}
 use Rattle.config_lines.proofs.hosts.port_then.Goals as goal

@@ -1,5 +1,4 @@
 use Rattle.std.proofs.Common.{◌∷◌, ◌++◌}
-use Rattle.std.specs.Prelude.{codes}
 use Rattle.merlin_base.specs.Addresses.{ip_text}
 use Rattle.config_lines.specs.Hosts.{ports_then, ports_of}
 use Rattle.config_lines.proofs.HostTexts.{ports_lawful, start_match, after_src, after_option, after_dst}

@@ -1,4 +1,4 @@
-use Rattle.std.proofs.Common.{◌≡◌, ℕ, ◌∙◌, sym, arith}
+use Rattle.std.proofs.Common.{◌∙◌, sym, arith}
 use Rattle.merlin_base.proofs.Decimals.{decimal_same}
 use Rattle.config_lines.proofs.Then.{unlike}
 use Rattle.config_lines.proofs.PortTexts.{no_proto}

@@ -1,13 +1,12 @@
 -- What is found grows packet by packet.
 use Rattle.std.specs.Prelude.{⊤}
-use Rattle.std.proofs.Common.{◌≡◌, ◌≢◌, ◌<◌, ◌≤◌, ◌+◌, ◌↔◌, ◌⊎◌, inl, inr, ℕ, suc, zero, Bool, true, false, IsTrue, cond, nat_lt, List, [], ◌∷◌, ◌++◌, map, length, Contains, Option, None, Some, Result, Ok, Err, OnOk, IsSome, MatchOption, slice_get, option_map, refl, sym, ◌∙◌, ap, ap₂, subst, arith}
+use Rattle.std.proofs.Common.{◌≡◌, ◌≢◌, ◌<◌, ◌+◌, ◌↔◌, ◌⊎◌, inl, inr, ℕ, Bool, true, false, cond, nat_lt, List, [], ◌∷◌, ◌++◌, map, length, Contains, Option, None, Some, Result, Ok, Err, OnOk, IsSome, MatchOption, refl, sym, ◌∙◌, ap, ap₂, subst, arith}
 use Rattle.std.specs.List.{AllByRecursion}
 use Rattle.merlin_model.specs.declared.network.HostAddress.{HostAddress}
 use Rattle.merlin_model.specs.declared.policy.Pred.{Pred}
-use Rattle.merlin_model.specs.declared.policy.Symbol.{Symbol}
 use Rattle.merlin_model.specs.Packets.{Packet, IsPacket, ComesBefore, source_of, destination_of}
 use Rattle.merlin_model.specs.Predicates.{holds, IsPred}
-use Rattle.merlin_model.specs.Networks.{Network, IsNetwork, IsHost, IsProper, address_of}
+use Rattle.merlin_model.specs.Networks.{Network, IsNetwork, IsProper, address_of}
 use Rattle.merlin_model.specs.Policies.{Policy, Statement, match_among, match_of}
 use Rattle.merlin_model.proofs.Members.{In, in_from, in_to, in_append, in_append-left, in_append-right, all_both}
 use Rattle.merlin_model.proofs.PacketOrder.{transitive, total}
@@ -20,7 +19,7 @@ use Rattle.negotiator.specs.declared.contacts.Found.{Found}
 use Rattle.negotiator.specs.StandIns.{IsNoLaterThan, AreJudgedAlike, AreStandIns}
 use Rattle.negotiator.specs.Between.{HasWalk, StaysWithin}
 use Rattle.negotiator.specs.Wider.{contact, AreContacts}
-use Rattle.negotiator.specs.Contacts.{first_holding, contact_at, IsWideBetween, IsWide, StaysOrComesLater, IsInTouch, IsFoundOf, IsSeen, IsFoundUpTo, IsWholeFound, AreProper, preds_of_both, IsLesser, IsWideWith}
+use Rattle.negotiator.specs.Contacts.{first_holding, contact_at, IsWide, StaysOrComesLater, IsInTouch, IsSeen, IsFoundUpTo, IsWholeFound, AreProper, preds_of_both, IsWideWith}
 
 -- Which statement a packet belongs to, by the predicates alone.
 

@@ -1,20 +1,18 @@
 -- The least packet to which the child allows more, and its least walk.
-use Rattle.std.proofs.Common.{◌≡◌, ◌≢◌, ◌<◌, ◌⊎◌, inl, inr, ℕ, Bool, true, false, List, length, Option, None, Some, IsSome, MatchOption, refl, sym, ◌∙◌, ap, subst}
+use Rattle.std.proofs.Common.{◌≡◌, ◌⊎◌, inl, inr, ℕ, Bool, true, false, List, Option, None, Some, IsSome, MatchOption, refl, sym, ◌∙◌, subst}
 use Rattle.merlin_model.specs.declared.network.HostAddress.{HostAddress}
 use Rattle.merlin_model.specs.declared.policy.Symbol.{Symbol}
 use Rattle.merlin_model.specs.Packets.{Packet, IsPacket, ComesBefore, IsLeastPacket, source_of, destination_of}
-use Rattle.merlin_model.specs.Networks.{Network, IsNetwork, IsHost, IsProper, address_of}
+use Rattle.merlin_model.specs.Networks.{Network, IsNetwork, IsHost, address_of}
 use Rattle.merlin_model.specs.Words.{IsWalk}
 use Rattle.merlin_model.specs.Policies.{Policy, match_of, IsAllowed}
 use Rattle.path_automaton.specs.Automata.{AutomatonTables}
-use Rattle.language_check.specs.Inclusion.{accepts_word, IsStrayWalk, IsInclusionAnswer, IsLessWord}
+use Rattle.language_check.specs.Inclusion.{accepts_word, IsStrayWalk, IsInclusionAnswer}
 use Rattle.language_check.specs.Ways.{AreSymbolsOf}
 use Rattle.negotiator.specs.declared.contacts.WidePacket.{WidePacket}
 use Rattle.negotiator.specs.declared.contacts.Found.{Found}
 use Rattle.negotiator.specs.declared.paths.WidePath.{WidePath}
-use Rattle.negotiator.specs.StandIns.{IsNoLaterThan}
-use Rattle.negotiator.specs.Between.{StaysWithin}
-use Rattle.negotiator.specs.Contacts.{IsWideBetween, IsWide, StaysOrComesLater, IsFoundOf, IsWholeFound}
+use Rattle.negotiator.specs.Contacts.{IsWideBetween, IsWide, StaysOrComesLater, IsWholeFound}
 use Rattle.negotiator.specs.Wider.{IsStrayFor, IsLeastStrayFor, IsWider, IsWidePath, IsWithPacket, KeepsPaths}
 use Rattle.negotiator.proofs.Walking.{IsReadBy, on-path}
 

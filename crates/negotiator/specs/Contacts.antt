@@ -1,8 +1,8 @@
 -- What is found while packets are looked at: which statements touch, and the least packet to which the child allows more.
-use Rattle.std.specs.Prelude.{ℕ, ◌≡◌, ◌<◌, ◌≤◌, ◌+◌, ◌⊎◌, ◌++◌, ⊤, Bool, true, false, List, [], ◌∷◌, map, Contains, Option, MatchOption, if◌then◌else◌}
+use Rattle.std.specs.Prelude.{ℕ, ◌≡◌, ◌<◌, ◌+◌, ◌⊎◌, ◌++◌, ⊤, Bool, true, false, List, [], ◌∷◌, map, Contains, Option, MatchOption, if◌then◌else◌}
 use Rattle.std.specs.List.{AllByRecursion}
 use Rattle.merlin_model.specs.declared.policy.Pred.{Pred}
-use Rattle.merlin_model.specs.Packets.{Packet, IsPacket, IsLeastPacket}
+use Rattle.merlin_model.specs.Packets.{Packet, IsPacket}
 use Rattle.merlin_model.specs.Predicates.{holds}
 use Rattle.merlin_model.specs.Networks.{Network, IsProper}
 use Rattle.merlin_model.specs.Policies.{Policy, match_of}

@@ -6,6 +6,10 @@ pub mod FunctionTexts
 pub mod ProcessParts
 pub mod FrameLines
 pub mod SymbolTexts
+pub mod PortTexts
+pub mod ClassTexts
+pub mod HostTexts
+pub mod HostParts
 pub mod RuleParts
 pub mod Joined
 pub mod MatchTexts

@@ -4,3 +4,4 @@ pub mod Lines
 pub mod Fields
 pub mod Courses
 pub mod Frames
+pub mod Hosts

@@ -3,7 +3,9 @@
 
 mod actions;
 mod addresses;
+mod classes;
 mod fields;
+mod hosts;
 pub mod limits;
 mod loads;
 mod processes;
@@ -12,6 +14,7 @@ mod rules;
 mod walks;
 mod words;
 
+pub use hosts::read_host;
 pub use loads::read_load;
 pub use processes::read_process;
 pub use queues::read_queue;

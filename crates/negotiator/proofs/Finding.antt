@@ -1,13 +1,12 @@
 -- What is found grows packet by packet.
 use Rattle.std.specs.Prelude.{⊤}
-use Rattle.std.proofs.Common.{◌≡◌, ◌≢◌, ◌<◌, ◌≤◌, ◌+◌, ◌↔◌, ◌⊎◌, inl, inr, ℕ, suc, zero, Bool, true, false, IsTrue, cond, nat_lt, List, [], ◌∷◌, ◌++◌, map, length, Contains, Option, None, Some, Result, Ok, Err, OnOk, IsSome, MatchOption, slice_get, option_map, refl, sym, ◌∙◌, ap, ap₂, subst, arith}
+use Rattle.std.proofs.Common.{◌≡◌, ◌≢◌, ◌<◌, ◌+◌, ◌↔◌, ◌⊎◌, inl, inr, ℕ, Bool, true, false, cond, nat_lt, List, [], ◌∷◌, ◌++◌, map, length, Contains, Option, None, Some, Result, Ok, Err, OnOk, IsSome, MatchOption, refl, sym, ◌∙◌, ap, ap₂, subst, arith}
 use Rattle.std.specs.List.{AllByRecursion}
 use Rattle.merlin_model.specs.declared.network.HostAddress.{HostAddress}
 use Rattle.merlin_model.specs.declared.policy.Pred.{Pred}
-use Rattle.merlin_model.specs.declared.policy.Symbol.{Symbol}
 use Rattle.merlin_model.specs.Packets.{Packet, IsPacket, ComesBefore, source_of, destination_of}
 use Rattle.merlin_model.specs.Predicates.{holds, IsPred}
-use Rattle.merlin_model.specs.Networks.{Network, IsNetwork, IsHost, IsProper, address_of}
+use Rattle.merlin_model.specs.Networks.{Network, IsNetwork, IsProper, address_of}
 use Rattle.merlin_model.specs.Policies.{Policy, Statement, match_among, match_of}
 use Rattle.merlin_model.proofs.Members.{In, in_from, in_to, in_append, in_append-left, in_append-right, all_both}
 use Rattle.merlin_model.proofs.PacketOrder.{transitive, total}
@@ -16,11 +15,11 @@ use Rattle.packet_model.specs.Fields.{IsBetween}
 use Rattle.language_check.proofs.Between.{host-within}
 use Rattle.negotiator.specs.declared.contacts.Contact.{Contact}
 use Rattle.negotiator.specs.declared.contacts.WidePacket.{WidePacket}
-use Rattle.negotiator.specs.declared.contacts.Found.{Found}
+use Rattle.negotiator.specs.declared.contacts.Findings.{Findings}
 use Rattle.negotiator.specs.StandIns.{IsNoLaterThan, AreJudgedAlike, AreStandIns}
 use Rattle.negotiator.specs.Between.{HasWalk, StaysWithin}
 use Rattle.negotiator.specs.Wider.{contact, AreContacts}
-use Rattle.negotiator.specs.Contacts.{first_holding, contact_at, IsWideBetween, IsWide, StaysOrComesLater, IsInTouch, IsFoundOf, IsSeen, IsFoundUpTo, IsWholeFound, AreProper, preds_of_both, IsLesser, IsWideWith}
+use Rattle.negotiator.specs.Contacts.{first_holding, contact_at, IsWide, StaysOrComesLater, IsInTouch, IsSeen, IsFoundUpTo, IsWholeFound, AreProper, preds_of_both, IsWideWith}
 
 -- Which statement a packet belongs to, by the predicates alone.
 
@@ -126,7 +125,7 @@ module _ (net : Network) (parent child : Policy) where
 
     pub noted : (walks stays : Bool) → (walks ≡ true) ↔ HasWalk net child src dst (match_of child packet) →
         (stays ≡ true) ↔ StaysWithin net parent child src dst (match_of child packet) (match_of parent packet) →
-        (old new : Found) → new.contacts.items ≡ old.contacts.items ++ cond walks (own ∷ []) [] → IsWideWith stays old.wide wide_one new.wide →
+        (old new : Findings) → new.contacts.items ≡ old.contacts.items ++ cond walks (own ∷ []) [] → IsWideWith stays old.wide wide_one new.wide →
         (packets : List Packet) → IsFoundUpTo net parent child src dst packets old → IsFoundUpTo net parent child src dst (packets ++ packet ∷ []) new
     noted walks stays walk stay old new contacts wide packets h = record {
       touch = λ c i. touch c (in_append old.contacts.items (cond walks (own ∷ []) []) c (subst (In c) contacts (in_from new.contacts.items c i)));
@@ -178,7 +177,7 @@ module _ (net : Network) (parent child : Policy) where
       by (p ∷ ps) h = ((h.0.0, between-proper s d a b differ e f p h.0.1), by ps h.1)
 
   -- Nothing is between two locations, or all that is was looked at.
-  pub next-pair : (src dst : ℕ) (packets : List Packet) (found : Found) →
+  pub next-pair : (src dst : ℕ) (packets : List Packet) (found : Findings) →
       ((p : Packet) → IsInTouch net parent child src dst p → Contains found.contacts.items (contact_at parent child p)) →
       ((p : Packet) → IsPacket p → IsProper net p src dst → StaysOrComesLater net parent child src dst p found.wide) →
       IsFoundUpTo net parent child src dst packets found → IsFoundUpTo net parent child src (dst + 1) [] found
@@ -214,11 +213,11 @@ module _ (net : Network) (parent child : Policy) where
               subst (λ x. StaysOrComesLater net parent child x d p found.wide) (sym e) (subst (λ y. StaysOrComesLater net parent child src y p found.wide) (sym f)
               (stay p is (subst (λ y. IsProper net p src y) f (subst (λ x. IsProper net p x d) e proper))))
 
-  pub no-pair : (src dst : ℕ) → ((p : Packet) → ¬ IsProper net p src dst) → (found : Found) → IsFoundUpTo net parent child src dst [] found → IsFoundUpTo net parent child src (dst + 1) [] found
+  pub no-pair : (src dst : ℕ) → ((p : Packet) → ¬ IsProper net p src dst) → (found : Findings) → IsFoundUpTo net parent child src dst [] found → IsFoundUpTo net parent child src (dst + 1) [] found
   no-pair src dst none found h = next-pair src dst [] found (λ p t. absurd (none p t.proper)) (λ p is proper. absurd (none p proper)) h
 
   pub whole-pair : (src dst : ℕ) (a b : HostAddress) → a ≢ b → src ≢ dst → address_of net src ≡ Some a → address_of net dst ≡ Some b → (packets : List Packet) → AreStandIns (preds_of_both parent child) a b packets →
-      (found : Found) → IsFoundUpTo net parent child src dst packets found → IsFoundUpTo net parent child src (dst + 1) [] found
+      (found : Findings) → IsFoundUpTo net parent child src dst packets found → IsFoundUpTo net parent child src (dst + 1) [] found
   whole-pair src dst a b differ apart e f packets are found h = next-pair src dst packets found touches stay h
     where
       cs : List Pred
@@ -273,7 +272,7 @@ module _ (net : Network) (parent child : Policy) where
   located : (loc : ℕ) (a : HostAddress) → address_of net loc ≡ Some a → loc < length net.locations
   located loc a e = host-within net loc (subst IsSome (sym e) refl)
 
-  pub next-row : (src : ℕ) (found : Found) → IsFoundUpTo net parent child src (length net.locations) [] found → IsFoundUpTo net parent child (src + 1) 0 [] found
+  pub next-row : (src : ℕ) (found : Findings) → IsFoundUpTo net parent child src (length net.locations) [] found → IsFoundUpTo net parent child (src + 1) 0 [] found
   next-row src found h = record {
     touch = h.touch;
     all_touch = λ s d p seen t. h.all_touch s d p (was s d p (located d (destination_of p) t.proper.destination) seen) t;
@@ -290,7 +289,7 @@ module _ (net : Network) (parent child : Policy) where
       was s d p lt (inr (e, inl less)) = absurd (omega (arith, less))
       was s d p lt (inr (e, inr (f, i))) = absurd (in_from [] p i)
 
-  pub all-rows : (found : Found) → IsFoundUpTo net parent child (length net.locations) 0 [] found → IsWholeFound net parent child found
+  pub all-rows : (found : Findings) → IsFoundUpTo net parent child (length net.locations) 0 [] found → IsWholeFound net parent child found
   all-rows found h = record {
     touch = h.touch;
     all_touch = λ s d p seen t. h.all_touch s d p (inl (located s (source_of p) t.proper.source)) t;
@@ -298,7 +297,7 @@ module _ (net : Network) (parent child : Policy) where
     others = λ s d p seen is proper. h.others s d p (inl (located s (source_of p) proper.source)) is proper;
   }
 
-  pub nothing-found : (found : Found) → found.contacts.items ≡ [] → found.wide ≡ None → IsFoundUpTo net parent child 0 0 [] found
+  pub nothing-found : (found : Findings) → found.contacts.items ≡ [] → found.wide ≡ None → IsFoundUpTo net parent child 0 0 [] found
   nothing-found found no_contacts no_wide = record {
     touch = λ c i. absurd (in_from [] c (subst (λ cs. Contains cs c) no_contacts i));
     all_touch = λ s d p seen t. absurd (unseen s d p seen);
@@ -331,7 +330,7 @@ pub no-address : (a : HostAddress) → None ≡ Some a → ⊥
 no-address a e = cc
 
 -- What is found whole is exact.
-pub exact-contacts : (net : Network) (parent child : Policy) (found : Found) → IsWholeFound net parent child found → AreContacts net parent child found.contacts.items
+pub exact-contacts : (net : Network) (parent child : Policy) (found : Findings) → IsWholeFound net parent child found → AreContacts net parent child found.contacts.items
 exact-contacts net parent child found h i j = (h.touch (contact i j), there)
   where
     there : Touches net parent child i j → Contains found.contacts.items (contact i j)

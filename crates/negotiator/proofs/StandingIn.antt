@@ -1,14 +1,14 @@
 -- The packets that are found stand for all others.
-use Rattle.std.proofs.Common.{◌≡◌, ◌≢◌, ◌≤◌, ◌<◌, ◌⊎◌, inl, inr, ℕ, ◌^◌, Bool, true, false, ◌==◌, ◌||◌, nat_lt, cond, List, [], ◌∷◌, ◌++◌, map, Contains, refl, sym, ◌∙◌, ap, subst, arith}
+use Rattle.std.proofs.Common.{◌≡◌, ◌≢◌, ◌≤◌, ◌<◌, ◌⊎◌, inl, inr, ℕ, ◌^◌, Bool, true, false, nat_lt, cond, List, [], ◌∷◌, ◌++◌, Contains, refl, sym, ◌∙◌, ap, subst, arith}
 use Rattle.std.specs.List.{AllByRecursion, flat_map}
 use Rattle.merlin_model.specs.declared.network.HostAddress.{HostAddress}
 use Rattle.merlin_model.specs.declared.policy.Field.{Field}
 use Rattle.merlin_model.specs.declared.policy.Field.TheVariants.{Proto, Sport, Dport}
 use Rattle.merlin_model.specs.declared.policy.Pred.{Pred}
 use Rattle.merlin_model.specs.Networks.{Pairwise}
-use Rattle.merlin_model.specs.Packets.{Packet, IsPacket, ComesBefore, source_of, destination_of}
-use Rattle.merlin_model.specs.Predicates.{holds, IsPred}
-use Rattle.merlin_model.proofs.Members.{In, in_from, in_to, in_append, in_append-left, in_append-right, in_map, map_in, in_flat_map, flat_map_in, all_both}
+use Rattle.merlin_model.specs.Packets.{Packet, IsPacket}
+use Rattle.merlin_model.specs.Predicates.{IsPred}
+use Rattle.merlin_model.proofs.Members.{In, in_to, in_append-left, in_append-right, in_map, map_in, in_flat_map, flat_map_in, all_both}
 use Rattle.packet_model.specs.Fields.{IsBetween, has_ports}
 use Rattle.predicate_logic.specs.Mentions.{mentions, ascending}
 use Rattle.predicate_logic.specs.Residues.{residues}
@@ -20,7 +20,7 @@ use Rattle.predicate_split.proofs.LeastNumbers.{least_from-least, least_from-out
 use Rattle.predicate_split.proofs.PartLaws.{decide_in}
 use Rattle.predicate_split.proofs.Splitting.{mentioned-below}
 use Rattle.predicate_split.proofs.Owners.{GoesBetween, StandsFor, goes, left-fresh, under-fresh, alike-between, alike-under, under-pass, unnamed-pass}
-use Rattle.negotiator.specs.StandIns.{IsHostAddress, AreJudgedAlike, IsNoLaterThan, AreStandIns, least_other, ports_told, HasSmallPorts, AreFreeOfPorts, packets_to, packets_from, packets_under, other_packets, packets_left, stand_ins}
+use Rattle.negotiator.specs.StandIns.{IsHostAddress, AreJudgedAlike, IsNoLaterThan, AreStandIns, least_other, ports_told, HasSmallPorts, AreFreeOfPorts, packets_to, packets_under, other_packets, stand_ins}
 
 all-in : {X : Type 0} (P : X → Type 0) (xs : List X) → ((x : X) → In x xs → P x) → AllByRecursion P xs
 all-in P [] h = tt

@@ -1,20 +1,18 @@
 -- The least packet to which the child allows more, and its least walk.
-use Rattle.std.proofs.Common.{◌≡◌, ◌≢◌, ◌<◌, ◌⊎◌, inl, inr, ℕ, Bool, true, false, List, length, Option, None, Some, IsSome, MatchOption, refl, sym, ◌∙◌, ap, subst}
+use Rattle.std.proofs.Common.{◌≡◌, ◌⊎◌, inl, inr, ℕ, Bool, true, false, List, Option, None, Some, IsSome, MatchOption, refl, sym, ◌∙◌, subst}
 use Rattle.merlin_model.specs.declared.network.HostAddress.{HostAddress}
 use Rattle.merlin_model.specs.declared.policy.Symbol.{Symbol}
 use Rattle.merlin_model.specs.Packets.{Packet, IsPacket, ComesBefore, IsLeastPacket, source_of, destination_of}
-use Rattle.merlin_model.specs.Networks.{Network, IsNetwork, IsHost, IsProper, address_of}
+use Rattle.merlin_model.specs.Networks.{Network, IsNetwork, IsHost, address_of}
 use Rattle.merlin_model.specs.Words.{IsWalk}
 use Rattle.merlin_model.specs.Policies.{Policy, match_of, IsAllowed}
 use Rattle.path_automaton.specs.Automata.{AutomatonTables}
-use Rattle.language_check.specs.Inclusion.{accepts_word, IsStrayWalk, IsInclusionAnswer, IsLessWord}
+use Rattle.language_check.specs.Inclusion.{accepts_word, IsStrayWalk, IsInclusionAnswer}
 use Rattle.language_check.specs.Ways.{AreSymbolsOf}
 use Rattle.negotiator.specs.declared.contacts.WidePacket.{WidePacket}
-use Rattle.negotiator.specs.declared.contacts.Found.{Found}
+use Rattle.negotiator.specs.declared.contacts.Findings.{Findings}
 use Rattle.negotiator.specs.declared.paths.WidePath.{WidePath}
-use Rattle.negotiator.specs.StandIns.{IsNoLaterThan}
-use Rattle.negotiator.specs.Between.{StaysWithin}
-use Rattle.negotiator.specs.Contacts.{IsWideBetween, IsWide, StaysOrComesLater, IsFoundOf, IsWholeFound}
+use Rattle.negotiator.specs.Contacts.{IsWideBetween, IsWide, StaysOrComesLater, IsWholeFound}
 use Rattle.negotiator.specs.Wider.{IsStrayFor, IsLeastStrayFor, IsWider, IsWidePath, IsWithPacket, KeepsPaths}
 use Rattle.negotiator.proofs.Walking.{IsReadBy, on-path}
 
@@ -26,7 +24,7 @@ is-host net h a e = subst IsSome (sym e) refl
 
 module _ (net : Network) (parent child : Policy) where
   -- No packet has more: the parent allows what the child allows.
-  pub keeps-paths : (found : Found) → found.wide ≡ None → IsWholeFound net parent child found → KeepsPaths net parent child
+  pub keeps-paths : (found : Findings) → found.wide ≡ None → IsWholeFound net parent child found → KeepsPaths net parent child
   keeps-paths found gone h p s w is_packet allowed = by (subst (StaysOrComesLater net parent child s allowed.to p) gone (h.others s allowed.to p tt is_packet allowed.proper))
     where
       by : StaysOrComesLater net parent child s allowed.to p None → IsAllowed net parent p s w
@@ -34,7 +32,7 @@ module _ (net : Network) (parent child : Policy) where
       by (inr never) = absurd never
 
   -- The packet that was found is the least.
-  pub least-packet : (found : Found) (wide : WidePacket) → found.wide ≡ Some wide → IsWholeFound net parent child found → (w : List Symbol) → IsStrayFor net parent child wide.packet w →
+  pub least-packet : (found : Findings) (wide : WidePacket) → found.wide ≡ Some wide → IsWholeFound net parent child found → (w : List Symbol) → IsStrayFor net parent child wide.packet w →
       IsLeastPacket (IsWider net parent child) wide.packet
   least-packet found wide is h w stray = record {
     is_packet = (subst (λ o. MatchOption o ⊥ (IsWide net parent child)) is (known found.wide is h.wide)).is_packet;
@@ -92,7 +90,7 @@ module _ (net : Network) (parent child : Policy) where
     }
 
   -- What was found with its walk is what is answered.
-  pub wide-answer : (symbols : List Symbol) (found : Found) (wide : WidePacket) → found.wide ≡ Some wide → IsWholeFound net parent child found → (word : Option (List Symbol)) →
+  pub wide-answer : (symbols : List Symbol) (found : Findings) (wide : WidePacket) → found.wide ≡ Some wide → IsWholeFound net parent child found → (word : Option (List Symbol)) →
       MatchOption word ⊥ (IsLeastStrayFor net parent child symbols wide.packet) → (path : Option WidePath) → IsWithPacket wide.packet word path → MatchOption path (KeepsPaths net parent child) (IsWidePath net parent child symbols)
   wide-answer symbols found wide is h word least None e = absurd (subst (λ o. MatchOption o ⊥ (IsLeastStrayFor net parent child symbols wide.packet)) e least)
   wide-answer symbols found wide is h word least (Some path) e =
@@ -102,5 +100,5 @@ module _ (net : Network) (parent child : Policy) where
         word = subst (λ p. IsLeastStrayFor net parent child symbols p path.word) (sym e.1) own;
       }
 
-  pub wide-is : (found : Found) (wide : WidePacket) → found.wide ≡ Some wide → IsWholeFound net parent child found → IsWide net parent child wide
+  pub wide-is : (found : Findings) (wide : WidePacket) → found.wide ≡ Some wide → IsWholeFound net parent child found → IsWide net parent child wide
   wide-is found wide is h = subst (λ o. MatchOption o (Unit {0}) (IsWide net parent child)) is h.wide

@@ -1,5 +1,5 @@
 -- Automata and paths between two hosts.
-use Rattle.std.proofs.Common.{◌≡◌, ◌<◌, ◌↔◌, ℕ, zero, suc, Bool, true, false, not, IsTrue, List, [], ◌∷◌, length, Contains, Option, None, Some, is_some, is_none, slice_get, refl, sym, ◌∙◌, ap, subst, arith}
+use Rattle.std.proofs.Common.{◌≡◌, ◌<◌, ◌↔◌, ℕ, zero, suc, Bool, true, false, not, IsTrue, List, [], ◌∷◌, length, Option, None, Some, is_some, is_none, slice_get, refl, sym, ◌∙◌, subst, arith}
 use Rattle.std.specs.List.{AllByRecursion}
 use Rattle.merlin_model.specs.declared.policy.Path.{Path}
 use Rattle.merlin_model.specs.declared.policy.Symbol.{Symbol}
@@ -7,7 +7,7 @@ use Rattle.merlin_model.specs.Networks.{Network}
 use Rattle.merlin_model.specs.Words.{IsSymbol, IsWalk}
 use Rattle.merlin_model.specs.Paths.{InLanguage}
 use Rattle.merlin_model.specs.Policies.{Policy, paths_of, IsOnPath}
-use Rattle.path_automaton.specs.Automata.{AutomatonTables, AcceptsListedWordsOf}
+use Rattle.path_automaton.specs.Automata.{AutomatonTables}
 use Rattle.path_automaton.specs.States.{IsMadeOf}
 use Rattle.path_automaton.proofs.Listed.{accepts-listed}
 use Rattle.language_check.specs.Inclusion.{accepts_word, IsInclusionAnswer}

@@ -1,15 +1,15 @@
 -- What is found while packets are looked at: which statements touch, and the least packet to which the child allows more.
-use Rattle.std.specs.Prelude.{ℕ, ◌≡◌, ◌<◌, ◌≤◌, ◌+◌, ◌⊎◌, ◌++◌, ⊤, Bool, true, false, List, [], ◌∷◌, map, Contains, Option, MatchOption, if◌then◌else◌}
+use Rattle.std.specs.Prelude.{ℕ, ◌≡◌, ◌<◌, ◌+◌, ◌⊎◌, ◌++◌, ⊤, Bool, true, false, List, [], ◌∷◌, map, Contains, Option, MatchOption, if◌then◌else◌}
 use Rattle.std.specs.List.{AllByRecursion}
 use Rattle.merlin_model.specs.declared.policy.Pred.{Pred}
-use Rattle.merlin_model.specs.Packets.{Packet, IsPacket, IsLeastPacket}
+use Rattle.merlin_model.specs.Packets.{Packet, IsPacket}
 use Rattle.merlin_model.specs.Predicates.{holds}
 use Rattle.merlin_model.specs.Networks.{Network, IsProper}
 use Rattle.merlin_model.specs.Policies.{Policy, match_of}
 use Rattle.refinement_model.specs.Refinement.{Touches}
 use Rattle.negotiator.specs.declared.contacts.Contact.{Contact}
 use Rattle.negotiator.specs.declared.contacts.WidePacket.{WidePacket}
-use Rattle.negotiator.specs.declared.contacts.Found.{Found}
+use Rattle.negotiator.specs.declared.contacts.Findings.{Findings}
 use Rattle.negotiator.specs.StandIns.{IsNoLaterThan}
 use Rattle.negotiator.specs.Between.{HasWalk, StaysWithin}
 
@@ -43,7 +43,7 @@ module _ (net : Network) (parent child : Policy) where
     pub walk : HasWalk net child s d (match_of child p)
 
   -- What is found once these packets were looked at, each with its hosts.
-  pub record IsFoundOf (Seen : ℕ → ℕ → Packet → Type 0) (found : Found) : Type 0 where
+  pub record IsFoundOf (Seen : ℕ → ℕ → Packet → Type 0) (found : Findings) : Type 0 where
     pub touch : (c : Contact) → Contains found.contacts.items c → Touches net parent child c.child c.parent
     pub all_touch : (s d : ℕ) (p : Packet) → Seen s d p → IsInTouch s d p → Contains found.contacts.items (contact_at parent child p)
     pub wide : MatchOption found.wide ⊤ IsWide
@@ -53,11 +53,11 @@ module _ (net : Network) (parent child : Policy) where
 abbrev pub IsSeen : ℕ → ℕ → List Packet → ℕ → ℕ → Packet → Type 0
 IsSeen src dst packets s d p = (s < src) ⊎ ((s ≡ src) × ((d < dst) ⊎ ((d ≡ dst) × Contains packets p)))
 
-abbrev pub IsFoundUpTo : Network → Policy → Policy → ℕ → ℕ → List Packet → Found → Type 0
+abbrev pub IsFoundUpTo : Network → Policy → Policy → ℕ → ℕ → List Packet → Findings → Type 0
 IsFoundUpTo net parent child src dst packets found = IsFoundOf net parent child (IsSeen src dst packets) found
 
 -- all packets are looked at
-abbrev pub IsWholeFound : Network → Policy → Policy → Found → Type 0
+abbrev pub IsWholeFound : Network → Policy → Policy → Findings → Type 0
 IsWholeFound net parent child found = IsFoundOf net parent child (λ s d p. ⊤) found
 
 -- packets that go from one host to another

@@ -7,7 +7,7 @@ ghost use Rattle.negotiator.specs.Between.{IsCase};
 ghost use Rattle.negotiator.specs.Contacts.{IsWholeFound};
 ghost use Rattle.negotiator.specs.Wider.{AreContacts, IsWidePath, KeepsPaths};
 
-use crate::contacts::{Contact, Found, find};
+use crate::contacts::{Contact, Findings, find};
 use crate::paths::{WidePath, wide_path};
 use crate::verdicts::{Case, nothing};
 use merlin_model::OutOfMemory;
@@ -23,7 +23,7 @@ pub struct Comparison {
 }
 
 // The same of what was found.
-fn comparison_of(alloc: Global, case: &Case<'_>, found: Found) -> Result<Comparison, OutOfMemory>
+fn comparison_of(alloc: Global, case: &Case<'_>, found: Findings) -> Result<Comparison, OutOfMemory>
     requires case { IsCase case.now }
     requires found { IsWholeFound case.now.net.now
         case.now.parent.now.policy case.now.child.now.policy found }

@@ -36,7 +36,7 @@ pub struct WidePacket {
 
 /// Which statements touch, and the least packet to which the child allows more, if there is one.
 #[derive(Drop)]
-pub struct Found {
+pub struct Findings {
     pub contacts: Vec<Contact>,
     pub wide: Option<WidePacket>,
 }
@@ -127,7 +127,7 @@ fn note_packet(
     src: usize,
     dst: usize,
     packet: Packet,
-    found: &mut Found,
+    found: &mut Findings,
 ) -> Result<(), OutOfMemory>
     requires case { IsCase case.now }
     requires src { IsHost case.now.net.now src }
@@ -156,7 +156,7 @@ fn note_packets(
     src: usize,
     dst: usize,
     packets: &[Packet],
-    found: &mut Found,
+    found: &mut Findings,
 ) -> Result<(), OutOfMemory>
     requires case { IsCase case.now }
     requires src { IsHost case.now.net.now src }
@@ -182,7 +182,7 @@ fn note_hosts(
     src: usize,
     dst: usize,
     addresses: (HostAddress, HostAddress),
-    found: &mut Found,
+    found: &mut Findings,
 ) -> Result<(), OutOfMemory>
     requires case { IsCase case.now }
     requires preds { preds.now ≡ preds_of_both case.now.parent.now.policy
@@ -209,7 +209,7 @@ fn note_pair(
     preds: &[Pred],
     src: usize,
     dst: usize,
-    found: &mut Found,
+    found: &mut Findings,
 ) -> Result<(), OutOfMemory>
     requires case { IsCase case.now }
     requires preds { preds.now ≡ preds_of_both case.now.parent.now.policy
@@ -242,7 +242,7 @@ fn note_row(
     case: &Case<'_>,
     preds: &[Pred],
     src: usize,
-    found: &mut Found,
+    found: &mut Findings,
 ) -> Result<(), OutOfMemory>
     requires case { IsCase case.now }
     requires preds { preds.now ≡ preds_of_both case.now.parent.now.policy
@@ -266,7 +266,7 @@ fn note_all(
     alloc: Global,
     case: &Case<'_>,
     preds: &[Pred],
-    found: &mut Found,
+    found: &mut Findings,
 ) -> Result<(), OutOfMemory>
     requires case { IsCase case.now }
     requires preds { preds.now ≡ preds_of_both case.now.parent.now.policy
@@ -306,14 +306,14 @@ fn both_preds(alloc: Global, case: &Case<'_>) -> Result<Items<Pred>, OutOfMemory
 }
 
 /// Which statements touch, and the least packet to which the child allows more.
-pub(crate) fn find(alloc: Global, case: &Case<'_>) -> Result<Found, OutOfMemory>
+pub(crate) fn find(alloc: Global, case: &Case<'_>) -> Result<Findings, OutOfMemory>
     requires { IsCase case.now }
     ensures { IfOk result (IsWholeFound case.now.net.now
         case.now.parent.now.policy case.now.child.now.policy) }
 {
     let _statements = (case.child.statements(), case.parent.statements());
     let preds = both_preds(alloc, case)?;
-    let mut found = Found {
+    let mut found = Findings {
         contacts: Vec::new(alloc),
         wide: None,
     };

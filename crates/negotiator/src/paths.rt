@@ -5,7 +5,7 @@ ghost use Rattle.negotiator.specs.Between.{IsCase};
 ghost use Rattle.negotiator.specs.Contacts.{IsWide, IsWholeFound};
 ghost use Rattle.negotiator.specs.Wider.{IsLeastStrayFor, IsWidePath, IsWithPacket, KeepsPaths};
 
-use crate::contacts::{Found, WidePacket, contact_of};
+use crate::contacts::{Findings, WidePacket, contact_of};
 use crate::verdicts::Case;
 use language_check::included;
 use merlin_model::OutOfMemory;
@@ -64,7 +64,7 @@ fn with_packet(packet: Packet, word: Option<Items<Symbol>>) -> Option<WidePath>
 pub(crate) fn wide_path(
     alloc: Global,
     case: &Case<'_>,
-    found: &Found,
+    found: &Findings,
 ) -> Result<Option<WidePath>, OutOfMemory>
     requires case { IsCase case.now }
     requires found { IsWholeFound case.now.net.now

@@ -1,6 +1,5 @@
-use Rattle.std.proofs.Common.{ℕ, List, ap, ap₂, ◌∙◌, ◌≡◌}
+use Rattle.std.proofs.Common.{ℕ, List, ap, ap₂, ◌∙◌}
 use Rattle.merlin_model.specs.declared.policy.Pred.{Pred}
-use Rattle.merlin_model.specs.Policies.{match_of}
 use Rattle.negotiator.specs.declared.contacts.Contact.{Contact}
 use Rattle.negotiator.specs.Contacts.{first_holding}
 use Rattle.negotiator.proofs.Finding.{first-is}

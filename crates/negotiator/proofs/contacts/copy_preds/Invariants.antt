@@ -1,5 +1,4 @@
-use Rattle.std.proofs.Common.{◌≡◌, ◌+◌, ◌++◌, [], take, drop}
-use Rattle.negotiator.specs.Contacts.{IsFoundUpTo, first_holding}
+use Rattle.std.proofs.Common.{◌≡◌, ◌++◌, take}
 use Rattle.negotiator.proofs.contacts.copy_preds.Given as goal
 
 abbrev pub invariant-loop-pred : goal.invariant-loop-pred

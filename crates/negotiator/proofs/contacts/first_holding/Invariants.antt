@@ -1,5 +1,5 @@
-use Rattle.std.proofs.Common.{◌≡◌, ◌+◌, ◌++◌, [], take, drop}
-use Rattle.negotiator.specs.Contacts.{IsFoundUpTo, first_holding}
+use Rattle.std.proofs.Common.{◌≡◌, ◌+◌, drop}
+use Rattle.negotiator.specs.Contacts.{first_holding}
 use Rattle.negotiator.proofs.contacts.first_holding.Given as goal
 
 abbrev pub invariant-loop-place : goal.invariant-loop-place

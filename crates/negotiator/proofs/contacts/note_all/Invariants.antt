@@ -1,5 +1,5 @@
-use Rattle.std.proofs.Common.{◌≡◌, ◌+◌, ◌++◌, [], take, drop}
-use Rattle.negotiator.specs.Contacts.{IsFoundUpTo, first_holding}
+use Rattle.std.proofs.Common.{[]}
+use Rattle.negotiator.specs.Contacts.{IsFoundUpTo}
 use Rattle.negotiator.proofs.contacts.note_all.Given as goal
 
 abbrev pub invariant-loop-src : goal.invariant-loop-src

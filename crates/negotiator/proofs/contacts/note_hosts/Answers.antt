@@ -1,8 +1,7 @@
-use Rattle.std.proofs.Common.{List, [], ◌+◌, ◌∙◌, sym, subst}
+use Rattle.std.proofs.Common.{List, sym, subst}
 use Rattle.merlin_model.specs.declared.policy.Pred.{Pred}
 use Rattle.merlin_model.specs.Packets.{Packet}
 use Rattle.negotiator.specs.StandIns.{AreStandIns}
-use Rattle.negotiator.specs.Contacts.{IsFoundUpTo}
 use Rattle.negotiator.proofs.Finding.{apart-addresses, whole-pair, on-ok}
 use Rattle.negotiator.proofs.contacts.note_hosts.Goals as goal
 

@@ -1,5 +1,4 @@
-use Rattle.std.proofs.Common.{◌↔◌, ◌≡◌, ◌++◌, ◌∷◌, [], true, cond, List, subst, ap, ◌∙◌}
-use Rattle.merlin_model.specs.Policies.{match_of}
+use Rattle.std.proofs.Common.{◌↔◌, ◌≡◌, ◌++◌, ◌∷◌, [], true, cond, subst, ap, ◌∙◌}
 use Rattle.negotiator.specs.declared.contacts.Contact.{Contact}
 use Rattle.negotiator.specs.Between.{HasWalk, StaysWithin}
 use Rattle.negotiator.proofs.Finding.{noted}

@@ -1,9 +1,9 @@
-use Rattle.std.proofs.Common.{ℕ, List, sym, ap, ap₂, ◌∙◌, ◌≡◌, ◌++◌, subst, OnOk}
+use Rattle.std.proofs.Common.{ℕ, List, ap, ap₂, ◌∙◌, ◌≡◌, ◌++◌, subst, OnOk}
 use Rattle.merlin_model.specs.declared.policy.Field.TheVariants.{Proto, Sport, Dport}
 use Rattle.merlin_model.specs.declared.policy.Pred.{Pred}
 use Rattle.merlin_model.specs.Packets.{Packet}
 use Rattle.predicate_logic.specs.Residues.{residues}
-use Rattle.negotiator.specs.StandIns.{packets_from, packets_under, ports_told}
+use Rattle.negotiator.specs.StandIns.{packets_from, ports_told}
 use Rattle.negotiator.proofs.stand_ins.add_under.Goals as goal
 
 pub returns : goal.returns

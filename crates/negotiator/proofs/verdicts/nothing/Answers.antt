@@ -1,7 +1,5 @@
-use Rattle.std.proofs.Common.{List}
 use Rattle.merlin_model.specs.declared.policy.Path.{Nothing}
 use Rattle.path_automaton.proofs.Listed.{accepts-listed}
-use Rattle.negotiator.specs.Between.{AcceptsNothing}
 use Rattle.negotiator.proofs.verdicts.nothing.Goals as goal
 
 pub returns-in-Ok : goal.returns-in-Ok

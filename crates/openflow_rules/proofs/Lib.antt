@@ -1,0 +1,3 @@
+mod Rated
+mod Kinding
+mod Leading

@@ -14,7 +14,7 @@ use Rattle.merlin_base.proofs.Cutting.{Free, free, free_append, cut_before_once}
 use Rattle.merlin_base.proofs.Decimals.{decimal_free_colon}
 use Rattle.config_text.specs.Lines.{out_text, action_text, actions_text}
 use Rattle.config_lines.specs.Words.{IsTag, IsQueue}
-use Rattle.config_lines.specs.Parts.{IsOut, IsTagging, IsSending, AreActions}
+use Rattle.config_lines.specs.Parts.{IsLineOut, IsTagging, IsSending, AreLineActions}
 use Rattle.config_lines.specs.Courses.{IsAction}
 use Rattle.config_lines.proofs.Then.{short_free}
 use Rattle.config_lines.proofs.Joined.{joined_free}
@@ -25,11 +25,11 @@ heads a b x y e = cc
 seconds : (a b c d : ℕ) (x y : List ℕ) → a ∷ b ∷ x ≡ c ∷ d ∷ y → b ≡ d
 seconds a b c d x y e = cc
 
-pub out_free : (byte : ℕ) (out : Out) → byte < 48 → IsOut out → Free byte (out_text out)
+pub out_free : (byte : ℕ) (out : Out) → byte < 48 → IsLineOut out → Free byte (out_text out)
 out_free byte InPort low is = ((λ e. omega arith), ((λ e. omega arith), ((λ e. omega arith), ((λ e. omega arith), ((λ e. omega arith), ((λ e. omega arith), ((λ e. omega arith), tt)))))))
 out_free byte (Port n) low is = short_free byte 1 65279 n low (omega arith) is
 
-pub out_free_colon : (out : Out) → IsOut out → Free 58 (out_text out)
+pub out_free_colon : (out : Out) → IsLineOut out → Free 58 (out_text out)
 out_free_colon InPort is = ((λ e. omega arith), ((λ e. omega arith), ((λ e. omega arith), ((λ e. omega arith), ((λ e. omega arith), ((λ e. omega arith), ((λ e. omega arith), tt)))))))
 out_free_colon (Port n) is = decimal_free_colon n (let h = is.high in omega arith)
 
@@ -78,10 +78,10 @@ send_is StripVlan is = absurd is
 send_is (Output out) is = is
 send_is (Enqueue out queue) is = is
 
-pub actions_free : (byte : ℕ) (actions : List Action) → byte < 44 → AreActions actions → Free byte (actions_text actions)
+pub actions_free : (byte : ℕ) (actions : List Action) → byte < 44 → AreLineActions actions → Free byte (actions_text actions)
 actions_free byte actions low are = joined_free byte (codes "drop") (map action_text actions) (λ e. omega arith) ((λ e. omega arith), ((λ e. omega arith), ((λ e. omega arith), ((λ e. omega arith), tt)))) (all actions are)
   where
-    all : (list : List Action) → AreActions list → AllByRecursion (Free byte) (map action_text list)
+    all : (list : List Action) → AreLineActions list → AllByRecursion (Free byte) (map action_text list)
     all [] h = tt
     all (a ∷ []) h = (action_free byte a (omega arith) (send_is a h), tt)
     all (a ∷ b ∷ []) h = (action_free byte a (omega arith) (change_is a h.0), (action_free byte b (omega arith) (send_is b h.1), tt))
@@ -95,13 +95,13 @@ no_tag word number e none StripVlan is h = let s = seconds 115 101 115 116 _ _ (
 no_tag word number e none (Output out) is h = let s = heads 115 111 _ _ (sym e ∙ h) in omega arith
 no_tag word number e none (Enqueue out queue) is h = let s = heads 115 101 _ _ (sym e ∙ h) in omega arith
 
-pub no_output : (word port : List ℕ) → word ≡ codes "output=" ++ port → ((out : Out) → IsOut out → port ≡ out_text out → ⊥) → (action : Action) → IsAction action → word ≡ action_text action → ⊥
+pub no_output : (word port : List ℕ) → word ≡ codes "output=" ++ port → ((out : Out) → IsLineOut out → port ≡ out_text out → ⊥) → (action : Action) → IsAction action → word ≡ action_text action → ⊥
 no_output word port e none (SetVlan n) is h = let s = heads 111 115 _ _ (sym e ∙ h) in omega arith
 no_output word port e none StripVlan is h = let s = heads 111 115 _ _ (sym e ∙ h) in omega arith
 no_output word port e none (Output out) is h = none out is (append_cancel_left (codes "output=") port (out_text out) (sym e ∙ h))
 no_output word port e none (Enqueue out queue) is h = let s = heads 111 101 _ _ (sym e ∙ h) in omega arith
 
-pub no_enqueue : (word place : List ℕ) → word ≡ codes "enqueue=" ++ place → ((out : Out) (queue : ℕ) → IsOut out → IsQueue queue → place ≡ out_text out ++ 58 ∷ decimal queue → ⊥) → (action : Action) → IsAction action → word ≡ action_text action → ⊥
+pub no_enqueue : (word place : List ℕ) → word ≡ codes "enqueue=" ++ place → ((out : Out) (queue : ℕ) → IsLineOut out → IsQueue queue → place ≡ out_text out ++ 58 ∷ decimal queue → ⊥) → (action : Action) → IsAction action → word ≡ action_text action → ⊥
 no_enqueue word place e none (SetVlan n) is h = let s = heads 101 115 _ _ (sym e ∙ h) in omega arith
 no_enqueue word place e none StripVlan is h = let s = heads 101 115 _ _ (sym e ∙ h) in omega arith
 no_enqueue word place e none (Output out) is h = let s = heads 101 111 _ _ (sym e ∙ h) in omega arith
@@ -132,7 +132,7 @@ pub record IsTwo (first behind : List ℕ) : Type 0 where
   pub front : first ≡ action_text change
   pub rest : behind ≡ 44 ∷ action_text send
 
-pub one_or_two : (word first behind : List ℕ) (actions : List Action) → (word ≡ codes "drop" → ⊥) → word ≡ first ++ behind → Lacks 44 first → IsEmptyOrBegins 44 behind → AreActions actions → word ≡ actions_text actions → IsOne first behind ⊎ IsTwo first behind
+pub one_or_two : (word first behind : List ℕ) (actions : List Action) → (word ≡ codes "drop" → ⊥) → word ≡ first ++ behind → Lacks 44 first → IsEmptyOrBegins 44 behind → AreLineActions actions → word ≡ actions_text actions → IsOne first behind ⊎ IsTwo first behind
 one_or_two word first behind [] differ e l b are h = absurd (differ h)
 one_or_two word first behind (a ∷ []) differ e l b are h =
     let cut = cut_before_once 44 first (action_text a) behind [] (free 44 first l) (action_free 44 a (omega arith) (send_is a are)) b tt (sym e ∙ h ∙ sym (append-nil (action_text a))) in
@@ -164,7 +164,7 @@ behind_comma x y e = cc
 -- the ways in which a word fails
 
 pub no_first : (word first behind : List ℕ) → (word ≡ codes "drop" → ⊥) → word ≡ first ++ behind → Lacks 44 first → IsEmptyOrBegins 44 behind → ((action : Action) → IsAction action → first ≡ action_text action → ⊥) →
-    (actions : List Action) → AreActions actions → word ≡ actions_text actions → ⊥
+    (actions : List Action) → AreLineActions actions → word ≡ actions_text actions → ⊥
 no_first word first behind differ e l b none actions are h = by (one_or_two word first behind actions differ e l b are h)
   where
     by : IsOne first behind ⊎ IsTwo first behind → ⊥
@@ -173,7 +173,7 @@ no_first word first behind differ e l b none actions are h = by (one_or_two word
 
 -- one action that does not send
 pub only_change : (word first behind : List ℕ) (action : Action) → (word ≡ codes "drop" → ⊥) → word ≡ first ++ behind → Lacks 44 first → IsEmptyOrBegins 44 behind → first ≡ action_text action → IsTagging action → ((rest : List ℕ) → behind ≡ 44 ∷ rest → ⊥) →
-    (actions : List Action) → AreActions actions → word ≡ actions_text actions → ⊥
+    (actions : List Action) → AreLineActions actions → word ≡ actions_text actions → ⊥
 only_change word first behind action differ e l b f changes none actions are h = by (one_or_two word first behind actions differ e l b are h)
   where
     by : IsOne first behind ⊎ IsTwo first behind → ⊥
@@ -182,7 +182,7 @@ only_change word first behind action differ e l b f changes none actions are h =
 
 -- something else behind the comma
 pub no_second : (word first behind second : List ℕ) → (word ≡ codes "drop" → ⊥) → word ≡ first ++ behind → Lacks 44 first → IsEmptyOrBegins 44 behind → behind ≡ 44 ∷ second → ((action : Action) → IsAction action → second ≡ action_text action → ⊥) →
-    (actions : List Action) → AreActions actions → word ≡ actions_text actions → ⊥
+    (actions : List Action) → AreLineActions actions → word ≡ actions_text actions → ⊥
 no_second word first behind second differ e l b f none actions are h = by (one_or_two word first behind actions differ e l b are h)
   where
     by : IsOne first behind ⊎ IsTwo first behind → ⊥
@@ -191,7 +191,7 @@ no_second word first behind second differ e l b f none actions are h = by (one_o
 
 -- a first action that sends
 pub sends_first : (word first behind second : List ℕ) (action : Action) → (word ≡ codes "drop" → ⊥) → word ≡ first ++ behind → Lacks 44 first → IsEmptyOrBegins 44 behind → behind ≡ 44 ∷ second → first ≡ action_text action → IsSending action →
-    (actions : List Action) → AreActions actions → word ≡ actions_text actions → ⊥
+    (actions : List Action) → AreLineActions actions → word ≡ actions_text actions → ⊥
 sends_first word first behind second action differ e l b f g sends actions are h = by (one_or_two word first behind actions differ e l b are h)
   where
     by : IsOne first behind ⊎ IsTwo first behind → ⊥
@@ -200,7 +200,7 @@ sends_first word first behind second action differ e l b f g sends actions are h
 
 -- a second action that does not send
 pub changes_second : (word first behind second : List ℕ) (action : Action) → (word ≡ codes "drop" → ⊥) → word ≡ first ++ behind → Lacks 44 first → IsEmptyOrBegins 44 behind → behind ≡ 44 ∷ second → second ≡ action_text action → IsTagging action →
-    (actions : List Action) → AreActions actions → word ≡ actions_text actions → ⊥
+    (actions : List Action) → AreLineActions actions → word ≡ actions_text actions → ⊥
 changes_second word first behind second action differ e l b f g changes actions are h = by (one_or_two word first behind actions differ e l b are h)
   where
     by : IsOne first behind ⊎ IsTwo first behind → ⊥

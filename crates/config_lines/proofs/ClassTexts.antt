@@ -6,7 +6,7 @@ use Rattle.std.specs.Fmt.{digits, digit_glyph}
 use Rattle.std.proofs.lemmas.Fmt.{hex_one_digit, hex_two_digits}
 use Rattle.std.proofs.DigitsParse.{digits_onto-nil, digits_onto_last, digits_onto_step}
 use Rattle.merlin_base.proofs.Cutting.{Free}
-use Rattle.config_lines.specs.Words.{IsWithin}
+use Rattle.config_lines.specs.Words.{IsLimited}
 use Rattle.config_lines.specs.Hosts.{IsGlyph}
 
 three : (n : ℕ) → 256 ≤ n → n < 4096 → digits 16 false n ≡ digit_glyph false (n / 16 / 16) ∷ digit_glyph false (n / 16 % 16) ∷ digit_glyph false (n % 16) ∷ []
@@ -58,7 +58,7 @@ pub record IsSpelled (text : List ℕ) : Type 0 where
   pub each : AllByRecursion IsGlyph text
   pub lead : (v : ℕ) × (0 < v) × (v < 16) × (get_or text 0 0 ≡ digit_glyph false v)
 
-pub spelled : (n : ℕ) → IsWithin 1 65535 n → IsSpelled (digits 16 false n)
+pub spelled : (n : ℕ) → IsLimited 1 65535 n → IsSpelled (digits 16 false n)
 spelled n is = by (nat_lt n 16) refl (nat_lt n 256) refl (nat_lt n 4096) refl
   where
     by : (b : Bool) → nat_lt n 16 ≡ b → (c : Bool) → nat_lt n 256 ≡ c → (d : Bool) → nat_lt n 4096 ≡ d → IsSpelled (digits 16 false n)
@@ -94,7 +94,7 @@ glyphs_free : (byte : ℕ) (text : List ℕ) → byte < 48 → AllByRecursion Is
 glyphs_free byte [] low all = tt
 glyphs_free byte (c ∷ cs) low all = ((λ e. let g = glyph_high all.0.0 all.0.1 in let h = all.0.2 in omega arith), glyphs_free byte cs low all.1)
 
-pub class_free : (byte n : ℕ) → byte < 48 → IsWithin 1 65535 n → Free byte (digits 16 false n)
+pub class_free : (byte n : ℕ) → byte < 48 → IsLimited 1 65535 n → Free byte (digits 16 false n)
 class_free byte n low is = glyphs_free byte (digits 16 false n) low (spelled n is).each
 
 glyph_at : (text : List ℕ) (i : ℕ) → AllByRecursion IsGlyph text → i < length text → IsGlyph (get_or text i 0)
@@ -104,13 +104,13 @@ glyph_at (c ∷ cs) (suc i) all h = glyph_at cs i all.1 (omega arith)
 
 -- a word that is no class
 
-pub wrong_lead : (word : List ℕ) → ((v : ℕ) → 0 < v → v < 16 → get_or word 0 0 ≡ digit_glyph false v → ⊥) → (n : ℕ) → IsWithin 1 65535 n → word ≡ digits 16 false n → ⊥
+pub wrong_lead : (word : List ℕ) → ((v : ℕ) → 0 < v → v < 16 → get_or word 0 0 ≡ digit_glyph false v → ⊥) → (n : ℕ) → IsLimited 1 65535 n → word ≡ digits 16 false n → ⊥
 wrong_lead word none n is e = let lead = (subst IsSpelled (sym e) (spelled n is)).lead in none lead.0 lead.1 lead.2 lead.3
 
-pub wrong_digit : (word : List ℕ) (i : ℕ) → i < length word → ¬ IsGlyph (get_or word i 0) → (n : ℕ) → IsWithin 1 65535 n → word ≡ digits 16 false n → ⊥
+pub wrong_digit : (word : List ℕ) (i : ℕ) → i < length word → ¬ IsGlyph (get_or word i 0) → (n : ℕ) → IsLimited 1 65535 n → word ≡ digits 16 false n → ⊥
 wrong_digit word i h none n is e = none (glyph_at word i (subst IsSpelled (sym e) (spelled n is)).each h)
 
-pub wrong_length : (word : List ℕ) → (length word < 1) ⊎ (5 ≤ length word) → (n : ℕ) → IsWithin 1 65535 n → word ≡ digits 16 false n → ⊥
+pub wrong_length : (word : List ℕ) → (length word < 1) ⊎ (5 ≤ length word) → (n : ℕ) → IsLimited 1 65535 n → word ≡ digits 16 false n → ⊥
 wrong_length word (inl h) n is e = let s = (subst IsSpelled (sym e) (spelled n is)).some in omega arith
 wrong_length word (inr h) n is e = let s = (subst IsSpelled (sym e) (spelled n is)).few in omega arith
 

@@ -9,7 +9,7 @@ use Rattle.merlin_base.specs.Addresses.{mac_text}
 use Rattle.merlin_base.proofs.Cutting.{free, cut_once}
 use Rattle.config_text.specs.Lines.{name_at, functions_text}
 use Rattle.config_lines.specs.declared.processes.Frame.{Frame}
-use Rattle.config_lines.specs.Words.{IsFunction}
+use Rattle.config_lines.specs.Words.{IsLineFunction}
 use Rattle.config_lines.specs.Lines.{process_line, IsProcessLine}
 use Rattle.config_lines.specs.Frames.{frame_text, IsFrame, process_of}
 use Rattle.config_lines.proofs.FunctionTexts.{functions_free}
@@ -19,7 +19,7 @@ pub line_is : (net : Network) (f : Frame) (fs text rest : List ℕ) → text ≡
 line_is net f fs text rest e names =
     e ∙ ap (λ t. codes "process " ++ (name_at net f.loc ++ 32 ∷ (decimal f.tag ++ 32 ∷ (mac_text f.eth_dst ++ 32 ∷ (t ++ 32 ∷ (decimal f.next_tag ++ 32 ∷ (decimal f.port ++ 32 ∷ (decimal f.queue ++ 10 ∷ rest)))))))) names ∙ sym (parts net (process_of f fs) rest)
 
-pub is_line : (net : Network) (f : Frame) (fs : List ℕ) → IsFrame net f → AllByRecursion (IsFunction net) fs → IsProcessLine net (process_of f fs)
+pub is_line : (net : Network) (f : Frame) (fs : List ℕ) → IsFrame net f → AllByRecursion (IsLineFunction net) fs → IsProcessLine net (process_of f fs)
 is_line net f fs is all = record {
   loc = is.loc;
   tag = is.tag;
@@ -30,7 +30,7 @@ is_line net f fs is all = record {
   queue = is.queue;
 }
 
-pub no_functions : (net : Network) (f : Frame) (text rest : List ℕ) → text ≡ frame_text net f rest → IsFrame net f → ((fs : List ℕ) → AllByRecursion (IsFunction net) fs → f.names.now ≡ functions_text net.functions fs → ⊥) →
+pub no_functions : (net : Network) (f : Frame) (text rest : List ℕ) → text ≡ frame_text net f rest → IsFrame net f → ((fs : List ℕ) → AllByRecursion (IsLineFunction net) fs → f.names.now ≡ functions_text net.functions fs → ⊥) →
     (p : Process) (more : List ℕ) → IsProcessLine net p → text ≡ process_line net p ++ more → ⊥
 no_functions net f text rest e is none p more lawful h =
     let a = start net text _ p more e h in

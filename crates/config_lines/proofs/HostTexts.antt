@@ -8,7 +8,7 @@ use Rattle.merlin_model.specs.declared.config.HostLine.{HostLine}
 use Rattle.merlin_model.specs.declared.config.HostLine.TheVariants as on_host
 use Rattle.merlin_base.specs.Addresses.{ip_text}
 use Rattle.config_text.specs.Lines.{rate_with_unit}
-use Rattle.config_lines.specs.Words.{IsShort, IsOptional}
+use Rattle.config_lines.specs.Words.{HasFewDigits, IsOptional}
 use Rattle.config_lines.specs.Parts.{IsHostMatch}
 use Rattle.config_lines.specs.Lines.{IsClass, AreHostNumbers}
 use Rattle.config_lines.specs.Hosts.{ports_then, ArePorts, ports_of, match_then, AreRates, class_then, target_then, verdict_then, host_then}
@@ -56,7 +56,7 @@ pub after_htb : (text r more : List ℕ) (rate ceil : ℕ) → text ≡ codes "h
     r ≡ rate_with_unit rate ++ (codes " ceil " ++ (rate_with_unit ceil ++ (codes "\n" ++ more)))
 after_htb text r more rate ceil e h = behind_word (codes "htb rate ") text r _ e h
 
-pub after_rate : (text r more : List ℕ) (n rate ceil : ℕ) → text ≡ rate_with_unit n ++ (codes " ceil " ++ r) → IsShort n → IsShort rate → text ≡ rate_with_unit rate ++ (codes " ceil " ++ (rate_with_unit ceil ++ (codes "\n" ++ more))) →
+pub after_rate : (text r more : List ℕ) (n rate ceil : ℕ) → text ≡ rate_with_unit n ++ (codes " ceil " ++ r) → HasFewDigits n → HasFewDigits rate → text ≡ rate_with_unit rate ++ (codes " ceil " ++ (rate_with_unit ceil ++ (codes "\n" ++ more))) →
     r ≡ rate_with_unit ceil ++ (codes "\n" ++ more)
 after_rate text r more n rate ceil e f g h = append_cancel_left (codes " ceil ") r _ (behind_rate text (codes " ceil " ++ r) _ n rate e f g h)
 

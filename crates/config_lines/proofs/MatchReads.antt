@@ -8,7 +8,7 @@ use Rattle.merlin_base.specs.Pairs.{IsEmptyOrBegins}
 use Rattle.config_text.specs.Words.{joined_by_commas}
 use Rattle.config_text.specs.Lines.{match_text}
 use Rattle.config_lines.specs.declared.fields.Key.{Key}
-use Rattle.config_lines.specs.Parts.{IsMatch}
+use Rattle.config_lines.specs.Parts.{IsLineMatch}
 use Rattle.config_lines.specs.Fields.{rank, IsValue, field_text, match_with}
 use Rattle.config_lines.proofs.Joined.{each_then, has_next, next_part, all_at, all_front, nothing_behind, one_more, last_one, joined_some, some_parts}
 use Rattle.config_lines.proofs.MatchTexts.{key_at, same_rank, fields_of, text_of, IsField, text_free, fields_are, fields_lawful, Ascend, end_of, next_rank, end_last, field_pushed, match_kept, rank_at, end_same, no_field, no_fields, end_none, all_ascend, text_is, text_at, lawful_at}
@@ -16,7 +16,7 @@ use Rattle.config_lines.proofs.MatchTexts.{key_at, same_rank, fields_of, text_of
 -- the fields of the match stand before what is left, and the next key has at least this rank
 pub record IsReadTo (word : List ℕ) (m : Match) (least : ℕ) (rest : List ℕ) : Type 0 where
   pub text : word ≡ each_then 44 text_of (fields_of m) ++ rest
-  pub fits : IsMatch m
+  pub fits : IsLineMatch m
   pub least_is : least ≡ end_of 0 (fields_of m)
 
 pub nothing_read : (word : List ℕ) → IsReadTo word no_field 0 word
@@ -36,7 +36,7 @@ record IsNext (m other : Match) (part : List ℕ) : Type 0 where
   lawful : IsField next
   text : part ≡ text_of next
 
-is-next : (word rest part behind : List ℕ) (m : Match) (least : ℕ) → (word ≡ codes "any" → ⊥) → IsReadTo word m least rest → rest ≡ part ++ behind → Lacks 44 part → IsEmptyOrBegins 44 behind → (other : Match) → IsMatch other → word ≡ match_text other → IsNext m other part
+is-next : (word rest part behind : List ℕ) (m : Match) (least : ℕ) → (word ≡ codes "any" → ⊥) → IsReadTo word m least rest → rest ≡ part ++ behind → Lacks 44 part → IsEmptyOrBegins 44 behind → (other : Match) → IsLineMatch other → word ≡ match_text other → IsNext m other part
 is-next word rest part behind m least differ so e l b other is h =
     let some = some_parts text_of (fields_of other) (codes "any") word differ (h ∙ ap (joined_by_commas (codes "any")) (fields_are other is)) in
     let has = has_next 44 text_of IsField (λ p f. text_free 44 p (omega arith) f) (fields_of m) (fields_of other) rest (fields_lawful m so.fits) (fields_lawful other is) some.0 (some.1 ∙ so.text) in
@@ -52,13 +52,13 @@ is-next word rest part behind m least differ so e l b other is h =
     }
 
 pub wrong_field : (word rest part behind : List ℕ) (m : Match) (least : ℕ) → (word ≡ codes "any" → ⊥) → IsReadTo word m least rest → rest ≡ part ++ behind → Lacks 44 part → IsEmptyOrBegins 44 behind →
-    ((key : Key) (n : ℕ) → IsValue key n → part ≡ field_text key n → ⊥) → (other : Match) → IsMatch other → word ≡ match_text other → ⊥
+    ((key : Key) (n : ℕ) → IsValue key n → part ≡ field_text key n → ⊥) → (other : Match) → IsLineMatch other → word ≡ match_text other → ⊥
 wrong_field word rest part behind m least differ so e l b none other is h =
     let next = is-next word rest part behind m least differ so e l b other is h in
     none (key_at next.next.0) next.next.1 (lawful_at next.next next.lawful).1 (next.text ∙ text_at next.next)
 
 pub wrong_rank : (word rest part behind : List ℕ) (m : Match) (least : ℕ) (key : Key) (n : ℕ) → (word ≡ codes "any" → ⊥) → IsReadTo word m least rest → rest ≡ part ++ behind → Lacks 44 part → IsEmptyOrBegins 44 behind → part ≡ field_text key n → rank key < least →
-    (other : Match) → IsMatch other → word ≡ match_text other → ⊥
+    (other : Match) → IsLineMatch other → word ≡ match_text other → ⊥
 wrong_rank word rest part behind m least key n differ so e l b f low other is h =
     let next = is-next word rest part behind m least differ so e l b other is h in
     let ranks : rank (key_at next.next.0) ≡ rank key = same_rank (key_at next.next.0) key next.next.1 n (sym (text_at next.next) ∙ sym next.text ∙ f) in
@@ -79,7 +79,7 @@ field_read word rest part behind more m least key n so e f v low g =
     }
 
 pub match_read : (word rest part behind : List ℕ) (m : Match) (least : ℕ) (key : Key) (n : ℕ) → IsReadTo word m least rest → rest ≡ part ++ behind → part ≡ field_text key n → IsValue key n → least ≤ rank key → IsEmptyOrBegins 44 behind → ((more : List ℕ) → behind ≡ 44 ∷ more → ⊥) →
-    (word ≡ match_text (match_with m key n)) × IsMatch (match_with m key n)
+    (word ≡ match_text (match_with m key n)) × IsLineMatch (match_with m key n)
 match_read word rest part behind m least key n so e f v low b none =
     let pushed = field_pushed m key n v (let is_least = so.least_is in omega arith) in
     let kept = match_kept m key n so.fits v in (

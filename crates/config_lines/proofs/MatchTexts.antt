@@ -13,8 +13,8 @@ use Rattle.config_text.specs.Words.{field}
 use Rattle.config_text.specs.Lines.{vlan_text, type_field, match_fields, match_text}
 use Rattle.config_lines.specs.declared.fields.Key.{Key}
 use Rattle.config_lines.specs.declared.fields.Key.TheVariants.{InPort, DlSrc, DlDst, DlVlan, DlType, NwProto, NwSrc, NwDst, TpSrc, TpDst}
-use Rattle.config_lines.specs.Words.{IsWithin, IsOptional}
-use Rattle.config_lines.specs.Parts.{IsVlan, IsMatch}
+use Rattle.config_lines.specs.Words.{IsLimited, IsOptional}
+use Rattle.config_lines.specs.Parts.{IsLineVlan, IsLineMatch}
 use Rattle.config_lines.specs.Fields.{key_word, rank, vlan_number_text, value_text, IsValue, field_text, vlan_of, match_with}
 use Rattle.config_lines.proofs.Then.{short_free}
 use Rattle.config_lines.proofs.AddressTexts.{mac_free, ip_free}
@@ -106,7 +106,7 @@ key_free_equals TpDst = ((λ e. omega arith), ((λ e. omega arith), ((λ e. omeg
 pub same_rank : (k l : Key) (m n : ℕ) → field_text k m ≡ field_text l n → rank k ≡ rank l
 same_rank k l m n e = sym (rank_is k) ∙ ap rank_of_word (cut_once 61 (key_word k) (key_word l) (value_text k m) (value_text l n) (key_free_equals k) (key_free_equals l) e).front ∙ rank_is l
 
-tag_free : (byte n : ℕ) → byte < 45 → IsWithin 0 4094 n → Free byte (vlan_number_text n)
+tag_free : (byte n : ℕ) → byte < 45 → IsLimited 0 4094 n → Free byte (vlan_number_text n)
 tag_free byte n low is = by (n == 0)
   where
     by : (b : Bool) → Free byte (cond b (codes "none") (decimal n))
@@ -172,7 +172,7 @@ unfolding fields_from
 plain r name text None os others same e = e
 plain r name text (Some v) os others same e = (let s = same v in cc)
 
-tagged : (o : Option Vlan) (os : List (Option ℕ)) (others : List (List ℕ)) → IsOptional IsVlan o → others ≡ map text_of (fields_from 4 os) → field (codes "dl_vlan") vlan_text o ++ others ≡ map text_of (fields_from 3 (option_map vlan_number o ∷ os))
+tagged : (o : Option Vlan) (os : List (Option ℕ)) (others : List (List ℕ)) → IsOptional IsLineVlan o → others ≡ map text_of (fields_from 4 os) → field (codes "dl_vlan") vlan_text o ++ others ≡ map text_of (fields_from 3 (option_map vlan_number o ∷ os))
 unfolding fields_from vlan_number text_of key_at all_keys
 tagged None os others is e = e
 tagged (Some Untagged) os others is e = ap (λ z. (codes "dl_vlan=none") ∷ z) e
@@ -187,7 +187,7 @@ unfolding fields_from type_number text_of key_at all_keys
 typed true os others e = ap (λ z. codes "dl_type=0x0800" ∷ z) e
 typed false os others e = e
 
-pub fields_are : (m : Match) → IsMatch m → match_fields m ≡ map text_of (fields_of m)
+pub fields_are : (m : Match) → IsLineMatch m → match_fields m ≡ map text_of (fields_of m)
 unfolding fields_of values fields_from text_of key_at all_keys vlan_number type_number
 fields_are m is =
     regroup ∙ plain 0 (codes "in_port") decimal m.in_port (m.dl_src ∷ m.dl_dst ∷ option_map vlan_number m.dl_vlan ∷ type_number m.dl_type ∷ m.nw_proto ∷ m.nw_src ∷ m.nw_dst ∷ m.tp_src ∷ m.tp_dst ∷ []) _ (λ n. refl)
@@ -214,7 +214,7 @@ unfolding fields_from IsField
 one_field r None os low is all = all
 one_field r (Some n) os low is all = ((low, is), all)
 
-pub fields_lawful : (m : Match) → IsMatch m → AllByRecursion IsField (fields_of m)
+pub fields_lawful : (m : Match) → IsLineMatch m → AllByRecursion IsField (fields_of m)
 unfolding fields_of values fields_from key_at all_keys vlan_number type_number
 fields_lawful m is =
     one_field 0 m.in_port (m.dl_src ∷ m.dl_dst ∷ option_map vlan_number m.dl_vlan ∷ type_number m.dl_type ∷ m.nw_proto ∷ m.nw_src ∷ m.nw_dst ∷ m.tp_src ∷ m.tp_dst ∷ []) (omega arith) is.in_port
@@ -228,7 +228,7 @@ fields_lawful m is =
     (one_field 8 m.tp_src (m.tp_dst ∷ []) (omega arith) is.tp_src
     (one_field 9 m.tp_dst [] (omega arith) is.tp_dst tt)))))))))
   where
-    tag : (o : Option Vlan) → IsOptional IsVlan o → IsOptional (IsWithin 0 4094) (option_map vlan_number o)
+    tag : (o : Option Vlan) → IsOptional IsLineVlan o → IsOptional (IsLimited 0 4094) (option_map vlan_number o)
     tag None h = tt
     tag (Some Untagged) h = record { low = omega arith; high = omega arith }
     tag (Some (Tag n)) h = record { low = omega arith; high = h.high }
@@ -237,7 +237,7 @@ fields_lawful m is =
     ether true = refl
     ether false = tt
 
-pub match_free : (byte : ℕ) (m : Match) → byte < 44 → IsMatch m → Free byte (match_text m)
+pub match_free : (byte : ℕ) (m : Match) → byte < 44 → IsLineMatch m → Free byte (match_text m)
 match_free byte m low is =
     joined_free byte (codes "any") (match_fields m) (λ e. omega arith) ((λ e. omega arith), ((λ e. omega arith), ((λ e. omega arith), tt)))
     (subst (AllByRecursion (Free byte)) (sym (fields_are m is)) (texts_free byte (fields_of m) (omega arith) (fields_lawful m is)))
@@ -342,14 +342,14 @@ field_pushed m key n is low =
     ten : (k : Key) → rank k < length (values m)
     ten k = rank_small k
 
-lawful_vlan : (n : ℕ) → IsWithin 0 4094 n → IsVlan (vlan_of n)
+lawful_vlan : (n : ℕ) → IsLimited 0 4094 n → IsLineVlan (vlan_of n)
 lawful_vlan n is = by (n == 0) refl
   where
-    by : (b : Bool) → (n == 0) ≡ b → IsVlan (cond b Untagged (Tag n))
+    by : (b : Bool) → (n == 0) ≡ b → IsLineVlan (cond b Untagged (Tag n))
     by true e = tt
     by false e = record { low = (let z : n ≢ 0 = grind arith in omega arith); high = is.high }
 
-pub match_kept : (m : Match) (key : Key) (n : ℕ) → IsMatch m → IsValue key n → IsMatch (match_with m key n)
+pub match_kept : (m : Match) (key : Key) (n : ℕ) → IsLineMatch m → IsValue key n → IsLineMatch (match_with m key n)
 match_kept m InPort n is v = record { in_port = v; dl_src = is.dl_src; dl_dst = is.dl_dst; dl_vlan = is.dl_vlan; nw_proto = is.nw_proto; nw_src = is.nw_src; nw_dst = is.nw_dst; tp_src = is.tp_src; tp_dst = is.tp_dst }
 match_kept m DlSrc n is v = record { in_port = is.in_port; dl_src = v; dl_dst = is.dl_dst; dl_vlan = is.dl_vlan; nw_proto = is.nw_proto; nw_src = is.nw_src; nw_dst = is.nw_dst; tp_src = is.tp_src; tp_dst = is.tp_dst }
 match_kept m DlDst n is v = record { in_port = is.in_port; dl_src = is.dl_src; dl_dst = v; dl_vlan = is.dl_vlan; nw_proto = is.nw_proto; nw_src = is.nw_src; nw_dst = is.nw_dst; tp_src = is.tp_src; tp_dst = is.tp_dst }

@@ -11,7 +11,7 @@ use Rattle.merlin_base.proofs.Decimals.{decimal_same, decimal_free, is_decimal}
 use Rattle.config_text.specs.Lines.{proto_text}
 use Rattle.config_lines.specs.declared.hosts.Ports.{Ports}
 use Rattle.config_lines.specs.Words.{IsOptional}
-use Rattle.config_lines.specs.Parts.{IsByte, IsDouble, HasPorts}
+use Rattle.config_lines.specs.Parts.{IsByte, IsDouble, MayNamePorts}
 use Rattle.config_lines.specs.Hosts.{option_then, ports_then, ArePorts}
 use Rattle.config_lines.proofs.Then.{double_free}
 
@@ -131,7 +131,7 @@ plain_target p more h = ap (λ s. option_then (codes "--sport ") decimal s (from
 alone : (p : Ports) (text more : List ℕ) → ArePorts p → text ≡ ports_then p more → p.proto ≡ None → text ≡ codes "-j " ++ more
 alone p text more are e k = e ∙ ap (λ o. option_then (codes "-p ") proto_text o (from_sport p more)) k ∙ plain_target p more (unnamed are.ports)
   where
-    unnamed : (p.sport ≡ None) × (p.dport ≡ None) ⊎ HasPorts p.proto → (p.sport ≡ None) × (p.dport ≡ None)
+    unnamed : (p.sport ≡ None) × (p.dport ≡ None) ⊎ MayNamePorts p.proto → (p.sport ≡ None) × (p.dport ≡ None)
     unnamed (inl h) = h
     unnamed (inr (inl h)) = absurd (none_some 6 (sym k ∙ h))
     unnamed (inr (inr h)) = absurd (none_some 17 (sym k ∙ h))
@@ -181,7 +181,7 @@ behind_proto p text rest more read n are e h f small =
 pub no_ports : (p : Ports) (n : ℕ) (more : List ℕ) → ArePorts p → p.proto ≡ Some n → n ≢ 6 → n ≢ 17 → from_sport p more ≡ codes "-j " ++ more
 no_ports p n more are is f g = plain_target p more (by are.ports)
   where
-    by : (p.sport ≡ None) × (p.dport ≡ None) ⊎ HasPorts p.proto → (p.sport ≡ None) × (p.dport ≡ None)
+    by : (p.sport ≡ None) × (p.dport ≡ None) ⊎ MayNamePorts p.proto → (p.sport ≡ None) × (p.dport ≡ None)
     by (inl h) = h
     by (inr (inl h)) = absurd (f (same_number n 6 (sym is ∙ h)))
     by (inr (inr h)) = absurd (g (same_number n 17 (sym is ∙ h)))

@@ -7,7 +7,7 @@ use Rattle.merlin_model.specs.Networks.{Network}
 use Rattle.merlin_base.specs.Addresses.{mac_text}
 use Rattle.merlin_base.proofs.Cutting.{Free}
 use Rattle.config_text.specs.Lines.{name_at, functions_text}
-use Rattle.config_lines.specs.Words.{IsWithin, IsPort, IsTag, IsLocation}
+use Rattle.config_lines.specs.Words.{IsLimited, IsPortNumber, IsTag, IsLocation}
 use Rattle.config_lines.specs.Parts.{IsMacNumber}
 use Rattle.config_lines.specs.Lines.{process_line, IsProcessLine}
 use Rattle.config_lines.proofs.Then.{behind_word, behind_part, location_free, short_free}
@@ -56,8 +56,8 @@ after_functions net text rest functions p more e f is h = behind_part 32 text fu
 pub after_next_tag : (net : Network) (text rest : List ℕ) (next_tag : ℕ) (p : Process) (more : List ℕ) → text ≡ decimal next_tag ++ 32 ∷ rest → IsTag next_tag → IsProcessLine net p → text ≡ from_next_tag net p more → rest ≡ from_port net p more
 after_next_tag net text rest next_tag p more e f is h = behind_part 32 text (decimal next_tag) rest (decimal p.next_tag) _ e (short_free 32 1 4094 next_tag (omega arith) (omega arith) f) (short_free 32 1 4094 p.next_tag (omega arith) (omega arith) is.next_tag) h
 
-pub after_port : (net : Network) (text rest : List ℕ) (port : ℕ) (p : Process) (more : List ℕ) → text ≡ decimal port ++ 32 ∷ rest → IsPort port → IsProcessLine net p → text ≡ from_port net p more → rest ≡ from_queue net p more
+pub after_port : (net : Network) (text rest : List ℕ) (port : ℕ) (p : Process) (more : List ℕ) → text ≡ decimal port ++ 32 ∷ rest → IsPortNumber port → IsProcessLine net p → text ≡ from_port net p more → rest ≡ from_queue net p more
 after_port net text rest port p more e f is h = behind_part 32 text (decimal port) rest (decimal p.port) _ e (short_free 32 1 65279 port (omega arith) (omega arith) f) (short_free 32 1 65279 p.port (omega arith) (omega arith) is.port) h
 
-pub after_queue : (net : Network) (text rest : List ℕ) (queue : ℕ) (p : Process) (more : List ℕ) → text ≡ decimal queue ++ 10 ∷ rest → IsWithin 0 64 queue → IsProcessLine net p → text ≡ from_queue net p more → rest ≡ more
+pub after_queue : (net : Network) (text rest : List ℕ) (queue : ℕ) (p : Process) (more : List ℕ) → text ≡ decimal queue ++ 10 ∷ rest → IsLimited 0 64 queue → IsProcessLine net p → text ≡ from_queue net p more → rest ≡ more
 after_queue net text rest queue p more e f is h = behind_part 10 text (decimal queue) rest (decimal p.queue) _ e (short_free 10 0 64 queue (omega arith) (omega arith) f) (short_free 10 0 64 p.queue (omega arith) (omega arith) is.queue) h

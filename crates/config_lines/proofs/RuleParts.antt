@@ -8,7 +8,7 @@ use Rattle.merlin_model.specs.declared.config.Rule.{Rule}
 use Rattle.merlin_model.specs.Networks.{Network}
 use Rattle.config_text.specs.Lines.{name_at, match_text, actions_text}
 use Rattle.config_lines.specs.Words.{IsLocation}
-use Rattle.config_lines.specs.Parts.{IsDouble, IsMatch, AreActions}
+use Rattle.config_lines.specs.Parts.{IsDouble, IsLineMatch, AreLineActions}
 use Rattle.config_lines.specs.Lines.{rule_line, IsRuleLine}
 use Rattle.config_lines.proofs.Then.{behind_word, behind_part, location_free, double_free}
 use Rattle.config_lines.proofs.MatchTexts.{match_free}
@@ -38,8 +38,8 @@ after_loc net text rest loc rule more e f is h = behind_part 32 text (name_at ne
 pub after_priority : (net : Network) (text rest : List ℕ) (priority : ℕ) (rule : Rule) (more : List ℕ) → text ≡ decimal priority ++ 32 ∷ rest → IsDouble priority → IsRuleLine net rule → text ≡ from_priority net rule more → rest ≡ from_fits net rule more
 after_priority net text rest priority rule more e f is h = behind_part 32 text (decimal priority) rest (decimal rule.priority) _ e (double_free 32 priority (omega arith) f) (double_free 32 rule.priority (omega arith) is.priority) h
 
-pub after_fits : (net : Network) (text rest : List ℕ) (fits : Match) (rule : Rule) (more : List ℕ) → text ≡ match_text fits ++ 32 ∷ rest → IsMatch fits → IsRuleLine net rule → text ≡ from_fits net rule more → rest ≡ from_actions net rule more
+pub after_fits : (net : Network) (text rest : List ℕ) (fits : Match) (rule : Rule) (more : List ℕ) → text ≡ match_text fits ++ 32 ∷ rest → IsLineMatch fits → IsRuleLine net rule → text ≡ from_fits net rule more → rest ≡ from_actions net rule more
 after_fits net text rest fits rule more e f is h = behind_part 32 text (match_text fits) rest (match_text rule.fits) _ e (match_free 32 fits (omega arith) f) (match_free 32 rule.fits (omega arith) is.fits) h
 
-pub after_actions : (net : Network) (text rest : List ℕ) (actions : List Action) (rule : Rule) (more : List ℕ) → text ≡ actions_text actions ++ 10 ∷ rest → AreActions actions → IsRuleLine net rule → text ≡ from_actions net rule more → rest ≡ more
+pub after_actions : (net : Network) (text rest : List ℕ) (actions : List Action) (rule : Rule) (more : List ℕ) → text ≡ actions_text actions ++ 10 ∷ rest → AreLineActions actions → IsRuleLine net rule → text ≡ from_actions net rule more → rest ≡ more
 after_actions net text rest actions rule more e f is h = behind_part 10 text (actions_text actions) rest (actions_text rule.actions) _ e (actions_free 10 actions (omega arith) f) (actions_free 10 rule.actions (omega arith) is.actions) h

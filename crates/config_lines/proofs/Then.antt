@@ -12,7 +12,7 @@ use Rattle.merlin_base.specs.Lexemes.{IsDigit, Lacks, IsIdentifier, IsNameByte}
 use Rattle.merlin_base.proofs.Cutting.{Free, free, free_middle, AreSame, cut_once}
 use Rattle.merlin_base.proofs.Decimals.{decimal_free, is_decimal}
 use Rattle.config_text.specs.Lines.{name_at, function_name, rate_with_unit}
-use Rattle.config_lines.specs.Words.{IsWithin, IsShort, IsLocation, IsFunction}
+use Rattle.config_lines.specs.Words.{IsLimited, HasFewDigits, IsLocation, IsLineFunction}
 use Rattle.config_lines.specs.Parts.{IsDouble}
 
 -- a text without the byte has no such part
@@ -32,10 +32,10 @@ behind_word word text rest more e h = append_cancel_left word rest more (sym e �
 
 -- Numbers and names lack what separates them.
 
-pub short_free : (byte least most n : ℕ) → byte < 48 → most < 10 ^ 19 → IsWithin least most n → Free byte (decimal n)
+pub short_free : (byte least most n : ℕ) → byte < 48 → most < 10 ^ 19 → IsLimited least most n → Free byte (decimal n)
 short_free byte least most n low top is = decimal_free byte n (let h = is.high in omega arith) low
 
-pub number_free : (byte n : ℕ) → byte < 48 → IsShort n → Free byte (decimal n)
+pub number_free : (byte n : ℕ) → byte < 48 → HasFewDigits n → Free byte (decimal n)
 number_free byte n low is = decimal_free byte n is low
 
 pub name_byte : (byte c : ℕ) → byte < 48 → IsNameByte c → c ≢ byte
@@ -67,12 +67,12 @@ identifier_free_colon text is = identifier_without 58 text name_colon is
 pub location_free : (byte : ℕ) (net : Network) (loc : ℕ) → byte < 48 → IsLocation net loc → Free byte (name_at net loc)
 location_free byte net loc low is = identifier_free byte (name_at net loc) low is.word
 
-pub function_free : (byte : ℕ) (net : Network) (f : ℕ) → byte < 48 → IsFunction net f → Free byte (function_name net.functions f)
+pub function_free : (byte : ℕ) (net : Network) (f : ℕ) → byte < 48 → IsLineFunction net f → Free byte (function_name net.functions f)
 function_free byte net f low is = identifier_free byte (function_name net.functions f) low is.word
 
 -- Rates.
 
-pub unit_free : (n : ℕ) → IsShort n → Free 107 (decimal n)
+pub unit_free : (n : ℕ) → HasFewDigits n → Free 107 (decimal n)
 unit_free n is = by (decimal n) (recursion_from_All IsDigit (decimal n) (is_decimal n is).digits)
   where
     by : (text : List ℕ) → AllByRecursion IsDigit text → Free 107 text
@@ -83,7 +83,7 @@ unit_free n is = by (decimal n) (recursion_from_All IsDigit (decimal n) (is_deci
 pub rate_cut : (n : ℕ) (rest : List ℕ) → rate_with_unit n ++ rest ≡ decimal n ++ 107 ∷ (codes "bit" ++ rest)
 rate_cut n rest = append_assoc (decimal n) (codes "kbit") rest
 
-pub behind_rate : (text rest more : List ℕ) (n m : ℕ) → text ≡ rate_with_unit n ++ rest → IsShort n → IsShort m → text ≡ rate_with_unit m ++ more → rest ≡ more
+pub behind_rate : (text rest more : List ℕ) (n m : ℕ) → text ≡ rate_with_unit n ++ rest → HasFewDigits n → HasFewDigits m → text ≡ rate_with_unit m ++ more → rest ≡ more
 behind_rate text rest more n m e f g h =
     append_cancel_left (codes "bit") rest more
     (cut_once 107 (decimal n) (decimal m) (codes "bit" ++ rest) (codes "bit" ++ more) (unit_free n f) (unit_free m g) (sym (rate_cut n rest) ∙ sym e ∙ h ∙ rate_cut m more)).rest
@@ -102,5 +102,5 @@ alike xs ys r e t = (bytes_eq-Decides xs ys).0 (sym e ∙ t)
 pub double_free : (byte n : ℕ) → byte < 48 → IsDouble n → Free byte (decimal n)
 double_free byte n low is = decimal_free byte n (omega arith) low
 
-pub within_double : (n : ℕ) → IsDouble n → IsWithin 0 65535 n
+pub within_double : (n : ℕ) → IsDouble n → IsLimited 0 65535 n
 within_double n is = record { low = omega arith; high = is }

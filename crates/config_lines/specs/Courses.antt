@@ -7,14 +7,14 @@ use Rattle.config_lines.specs.declared.actions.Course.TheVariants.{Drop, Send, C
 use Rattle.config_lines.specs.declared.rules.PlainRule.{PlainRule}
 use Rattle.merlin_model.specs.declared.config.Rule.{Rule}
 use Rattle.config_lines.specs.Words.{IsTag, IsQueue}
-use Rattle.config_lines.specs.Parts.{IsOut}
+use Rattle.config_lines.specs.Parts.{IsLineOut}
 
 -- an action with lawful numbers
 abbrev pub IsAction : Action → Type 0
 IsAction (SetVlan tag) = IsTag tag
 IsAction StripVlan = Unit {0}
-IsAction (Output out) = IsOut out
-IsAction (Enqueue out queue) = IsOut out × IsQueue queue
+IsAction (Output out) = IsLineOut out
+IsAction (Enqueue out queue) = IsLineOut out × IsQueue queue
 
 abbrev pub actions_of : Course → List Action
 actions_of Drop = []

@@ -8,7 +8,7 @@ use Rattle.merlin_base.specs.Addresses.{mac_text, ip_text}
 use Rattle.config_lines.specs.declared.fields.Key.{Key}
 use Rattle.config_lines.specs.declared.fields.Key.TheVariants.{InPort, DlSrc, DlDst, DlVlan, DlType, NwProto, NwSrc, NwDst, TpSrc, TpDst}
 use Rattle.config_lines.specs.declared.limits.TheConstants.{MAX_TAG}
-use Rattle.config_lines.specs.Words.{IsWithin, IsPort}
+use Rattle.config_lines.specs.Words.{IsLimited, IsPortNumber}
 use Rattle.config_lines.specs.Parts.{IsMacNumber, IsIpNumber, IsByte, IsDouble}
 
 abbrev pub key_word : Key → List ℕ
@@ -52,10 +52,10 @@ value_text TpSrc n = decimal n
 value_text TpDst n = decimal n
 
 abbrev pub IsValue : Key → ℕ → Type 0
-IsValue InPort n = IsPort n
+IsValue InPort n = IsPortNumber n
 IsValue DlSrc n = IsMacNumber n
 IsValue DlDst n = IsMacNumber n
-IsValue DlVlan n = IsWithin 0 MAX_TAG n
+IsValue DlVlan n = IsLimited 0 MAX_TAG n
 IsValue DlType n = n ≡ 0
 IsValue NwProto n = IsByte n
 IsValue NwSrc n = IsIpNumber n

@@ -7,7 +7,7 @@ use Rattle.merlin_base.specs.Lexemes.{Lacks}
 use Rattle.merlin_base.specs.Addresses.{mac_text}
 use Rattle.config_text.specs.Lines.{name_at}
 use Rattle.config_lines.specs.declared.processes.Frame.{Frame}
-use Rattle.config_lines.specs.Words.{IsWithin, IsPort, IsTag, IsLocation}
+use Rattle.config_lines.specs.Words.{IsLimited, IsPortNumber, IsTag, IsLocation}
 use Rattle.config_lines.specs.Parts.{IsMacNumber}
 use Rattle.config_lines.specs.declared.limits.TheConstants.{MAX_QUEUE}
 
@@ -23,8 +23,8 @@ pub record IsFrame (net : Network) (f : Frame) : Type 0 where
   pub eth_dst : IsMacNumber f.eth_dst
   pub names : Lacks 32 f.names.now
   pub next_tag : IsTag f.next_tag
-  pub port : IsPort f.port
-  pub queue : IsWithin 0 MAX_QUEUE f.queue
+  pub port : IsPortNumber f.port
+  pub queue : IsLimited 0 MAX_QUEUE f.queue
 
 -- the line with functions in place of the word
 abbrev pub process_of : Frame → List ℕ → Process

@@ -7,8 +7,8 @@ use Rattle.merlin_model.specs.declared.config.HostLine.TheVariants as on_host
 use Rattle.merlin_base.specs.Addresses.{ip_text}
 use Rattle.config_text.specs.Lines.{proto_text, rate_with_unit}
 use Rattle.config_lines.specs.declared.hosts.Ports.{Ports}
-use Rattle.config_lines.specs.Words.{IsShort, IsOptional}
-use Rattle.config_lines.specs.Parts.{IsByte, IsDouble, HasPorts}
+use Rattle.config_lines.specs.Words.{HasFewDigits, IsOptional}
+use Rattle.config_lines.specs.Parts.{IsByte, IsDouble, MayNamePorts}
 use Rattle.config_lines.specs.Lines.{IsClass}
 
 -- a hexadecimal digit, in lower case
@@ -30,7 +30,7 @@ pub record ArePorts (p : Ports) : Type 0 where
   pub proto : IsOptional IsByte p.proto
   pub sport : IsOptional IsDouble p.sport
   pub dport : IsOptional IsDouble p.dport
-  pub ports : (p.sport ≡ None) × (p.dport ≡ None) ⊎ HasPorts p.proto
+  pub ports : (p.sport ≡ None) × (p.dport ≡ None) ⊎ MayNamePorts p.proto
 
 abbrev pub ports_of : HostMatch → Ports
 ports_of m = record { proto = m.proto; sport = m.sport; dport = m.dport }
@@ -45,7 +45,7 @@ class_then class rate ceil more =
     digits 16 false class ++ 32 ∷ (codes "htb rate " ++ (rate_with_unit rate ++ (codes " ceil " ++ (rate_with_unit ceil ++ (codes "\n" ++ more)))))
 
 abbrev pub AreRates : ℕ → ℕ → ℕ → Type 0
-AreRates class rate ceil = IsClass class × IsShort rate × IsShort ceil
+AreRates class rate ceil = IsClass class × HasFewDigits rate × HasFewDigits ceil
 
 -- what a line of POSTROUTING does: it gives a class, or it leaves the list
 abbrev pub target_then : Option ℕ → List ℕ → List ℕ

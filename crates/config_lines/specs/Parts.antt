@@ -10,7 +10,7 @@ use Rattle.merlin_model.specs.declared.config.Vlan.TheVariants.{Untagged, Tag}
 use Rattle.merlin_model.specs.declared.config.Match.{Match}
 use Rattle.merlin_model.specs.declared.config.HostMatch.{HostMatch}
 use Rattle.merlin_model.specs.Networks.{Network}
-use Rattle.config_lines.specs.Words.{IsPort, IsTag, IsQueue, IsOptional, IsLocation, IsFunction}
+use Rattle.config_lines.specs.Words.{IsPortNumber, IsTag, IsQueue, IsOptional, IsLocation, IsLineFunction}
 
 abbrev pub IsMacNumber : ℕ → Type 0
 IsMacNumber n = n < 2 ^ 48
@@ -24,25 +24,25 @@ IsByte n = n ≤ 255
 abbrev pub IsDouble : ℕ → Type 0
 IsDouble n = n ≤ 65535
 
-abbrev pub IsVlan : Vlan → Type 0
-IsVlan Untagged = Unit {0}
-IsVlan (Tag tag) = IsTag tag
+abbrev pub IsLineVlan : Vlan → Type 0
+IsLineVlan Untagged = Unit {0}
+IsLineVlan (Tag tag) = IsTag tag
 
 -- the numbers that a match names
-pub record IsMatch (m : Match) : Type 0 where
-  pub in_port : IsOptional IsPort m.in_port
+pub record IsLineMatch (m : Match) : Type 0 where
+  pub in_port : IsOptional IsPortNumber m.in_port
   pub dl_src : IsOptional IsMacNumber m.dl_src
   pub dl_dst : IsOptional IsMacNumber m.dl_dst
-  pub dl_vlan : IsOptional IsVlan m.dl_vlan
+  pub dl_vlan : IsOptional IsLineVlan m.dl_vlan
   pub nw_proto : IsOptional IsByte m.nw_proto
   pub nw_src : IsOptional IsIpNumber m.nw_src
   pub nw_dst : IsOptional IsIpNumber m.nw_dst
   pub tp_src : IsOptional IsDouble m.tp_src
   pub tp_dst : IsOptional IsDouble m.tp_dst
 
-abbrev pub IsOut : Out → Type 0
-IsOut InPort = Unit {0}
-IsOut (Port port) = IsPort port
+abbrev pub IsLineOut : Out → Type 0
+IsLineOut InPort = Unit {0}
+IsLineOut (Port port) = IsPortNumber port
 
 -- an action that changes the tag
 abbrev pub IsTagging : Action → Type 0
@@ -55,19 +55,19 @@ IsTagging (Enqueue out queue) = ⊥
 abbrev pub IsSending : Action → Type 0
 IsSending (SetVlan tag) = ⊥
 IsSending StripVlan = ⊥
-IsSending (Output out) = IsOut out
-IsSending (Enqueue out queue) = IsOut out × IsQueue queue
+IsSending (Output out) = IsLineOut out
+IsSending (Enqueue out queue) = IsLineOut out × IsQueue queue
 
 -- none, or one by which the frame leaves, or one that changes the tag before that
-abbrev pub AreActions : List Action → Type 0
-AreActions [] = Unit {0}
-AreActions (send ∷ []) = IsSending send
-AreActions (change ∷ send ∷ []) = IsTagging change × IsSending send
-AreActions (first ∷ second ∷ third ∷ more) = ⊥
+abbrev pub AreLineActions : List Action → Type 0
+AreLineActions [] = Unit {0}
+AreLineActions (send ∷ []) = IsSending send
+AreLineActions (change ∷ send ∷ []) = IsTagging change × IsSending send
+AreLineActions (first ∷ second ∷ third ∷ more) = ⊥
 
 -- a port is named behind TCP and UDP alone
-abbrev pub HasPorts : Option ℕ → Type 0
-HasPorts proto = (proto ≡ Some 6) ⊎ (proto ≡ Some 17)
+abbrev pub MayNamePorts : Option ℕ → Type 0
+MayNamePorts proto = (proto ≡ Some 6) ⊎ (proto ≡ Some 17)
 
 pub record IsHostMatch (m : HostMatch) : Type 0 where
   pub src : IsIpNumber m.src
@@ -75,9 +75,9 @@ pub record IsHostMatch (m : HostMatch) : Type 0 where
   pub proto : IsOptional IsByte m.proto
   pub sport : IsOptional IsDouble m.sport
   pub dport : IsOptional IsDouble m.dport
-  pub ports : (m.sport ≡ None) × (m.dport ≡ None) ⊎ HasPorts m.proto
+  pub ports : (m.sport ≡ None) × (m.dport ≡ None) ⊎ MayNamePorts m.proto
 
 -- a location, and any function, wherever that is placed
-pub record IsSymbol (net : Network) (symbol : Symbol) : Type 0 where
+pub record IsLineSymbol (net : Network) (symbol : Symbol) : Type 0 where
   pub loc : IsLocation net symbol.loc
-  pub fun : IsOptional (IsFunction net) symbol.fun
+  pub fun : IsOptional (IsLineFunction net) symbol.fun

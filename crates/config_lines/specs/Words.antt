@@ -8,22 +8,22 @@ use Rattle.config_text.specs.Lines.{name_at, function_name}
 use Rattle.config_lines.specs.declared.limits.TheConstants.{MAX_TAG, MAX_QUEUE}
 
 -- the number is within a range
-pub record IsWithin (least most n : ℕ) : Type 0 where
+pub record IsLimited (least most n : ℕ) : Type 0 where
   pub low : least ≤ n
   pub high : n ≤ most
 
-abbrev pub IsPort : ℕ → Type 0
-IsPort = IsWithin 1 MAX_PORT
+abbrev pub IsPortNumber : ℕ → Type 0
+IsPortNumber = IsLimited 1 MAX_PORT
 
 abbrev pub IsTag : ℕ → Type 0
-IsTag = IsWithin 1 MAX_TAG
+IsTag = IsLimited 1 MAX_TAG
 
 abbrev pub IsQueue : ℕ → Type 0
-IsQueue = IsWithin 1 MAX_QUEUE
+IsQueue = IsLimited 1 MAX_QUEUE
 
 -- a number with at most so many digits
-abbrev pub IsShort : ℕ → Type 0
-IsShort n = n < 10 ^ MAX_DIGITS
+abbrev pub HasFewDigits : ℕ → Type 0
+HasFewDigits n = n < 10 ^ MAX_DIGITS
 
 -- it is so, if it is there
 abbrev pub IsOptional : {X : Type 0} → (X → Type 0) → Option X → Type 0
@@ -36,6 +36,6 @@ pub record IsLocation (net : Network) (loc : ℕ) : Type 0 where
   pub word : IsIdentifier (name_at net loc)
 
 -- a packet function that a word can name
-pub record IsFunction (net : Network) (function : ℕ) : Type 0 where
+pub record IsLineFunction (net : Network) (function : ℕ) : Type 0 where
   pub within : function < length net.functions
   pub word : IsIdentifier (function_name net.functions function)

@@ -6,7 +6,7 @@ ghost use Rattle.merlin_model.specs.declared.config.Out.{Out as Port};
 ghost use Rattle.merlin_model.specs.declared.config.Action.{Action as Stated};
 ghost use Rattle.config_text.specs.Lines.{out_text, action_text, actions_text};
 ghost use Rattle.config_lines.specs.Words.{IsQueue};
-ghost use Rattle.config_lines.specs.Parts.{IsOut, IsTagging, IsSending, AreActions};
+ghost use Rattle.config_lines.specs.Parts.{IsLineOut, IsTagging, IsSending, AreLineActions};
 ghost use Rattle.config_lines.specs.Courses.{IsAction, actions_of};
 
 use crate::limits::{MAX_QUEUE, MAX_TAG};
@@ -24,8 +24,8 @@ pub enum Course {
 
 // The port that the word names.
 fn read_out(word: &[u8]) -> Option<Out>
-    ensures some { IfSome result (λ out. (word.now ≡ out_text out) × IsOut out) }
-    ensures none { IfNone result ((out : Port) → IsOut out → word.now ≡ out_text out → ⊥) }
+    ensures some { IfSome result (λ out. (word.now ≡ out_text out) × IsLineOut out) }
+    ensures none { IfNone result ((out : Port) → IsLineOut out → word.now ≡ out_text out → ⊥) }
 {
     if word == b"in_port".as_slice() {
         return Some(Out::InPort);
@@ -37,8 +37,8 @@ fn read_out(word: &[u8]) -> Option<Out>
 // The port and the queue that the word names.
 fn read_enqueue(word: &[u8]) -> Option<(Out, u16)>
     ensures some { IfSome result (λ r. (word.now ≡ out_text r.0 ++ 58 ∷ decimal r.1)
-        × IsOut r.0 × IsQueue r.1) }
-    ensures none { IfNone result ((out : Port) (queue : ℕ) → IsOut out → IsQueue queue →
+        × IsLineOut r.0 × IsQueue r.1) }
+    ensures none { IfNone result ((out : Port) (queue : ℕ) → IsLineOut out → IsQueue queue →
         word.now ≡ out_text out ++ 58 ∷ decimal queue → ⊥) }
 {
     let (port, number) = split_at_byte(word, b':')?;
@@ -86,8 +86,8 @@ fn is_sending(action: Action) -> bool
 // What the word makes a rule do.
 fn read_course(word: &[u8]) -> Option<Course>
     ensures some { IfSome result (λ course.
-        (word.now ≡ actions_text (actions_of course)) × AreActions (actions_of course)) }
-    ensures none { IfNone result ((actions : List Stated) → AreActions actions →
+        (word.now ≡ actions_text (actions_of course)) × AreLineActions (actions_of course)) }
+    ensures none { IfNone result ((actions : List Stated) → AreLineActions actions →
         word.now ≡ actions_text actions → ⊥) }
 {
     if word == b"drop".as_slice() {
@@ -116,8 +116,8 @@ fn read_course(word: &[u8]) -> Option<Course>
 /// What a rule does by the end of its line, and what stands behind the line.
 pub(crate) fn course_then(text: &[u8]) -> Option<(Course, &[u8])>
     ensures some { IfSome result (λ r. (text.now ≡ actions_text (actions_of r.0) ++ 10 ∷ r.1.now)
-        × AreActions (actions_of r.0)) }
-    ensures none { IfNone result ((actions : List Stated) (rest : List ℕ) → AreActions actions →
+        × AreLineActions (actions_of r.0)) }
+    ensures none { IfNone result ((actions : List Stated) (rest : List ℕ) → AreLineActions actions →
         text.now ≡ actions_text actions ++ 10 ∷ rest → ⊥) }
 {
     let (word, rest) = split_at_byte(text, b'\n')?;

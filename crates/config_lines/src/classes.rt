@@ -2,7 +2,7 @@
 
 ghost use Rattle.std.specs.Prelude.{ℕ, ◌≡◌, ◌+◌, ◌*◌, ◌<◌, ◌≤◌, ◌++◌, ◌∷◌, [], false, List, IfSome, IfNone};
 ghost use Rattle.std.specs.Fmt.{digits, digit_glyph};
-ghost use Rattle.config_lines.specs.Words.{IsWithin};
+ghost use Rattle.config_lines.specs.Words.{IsLimited};
 ghost use Rattle.config_lines.specs.Hosts.{IsGlyph};
 
 use merlin_base::split_at_byte;
@@ -21,7 +21,7 @@ fn digit_of(byte: u8) -> Option<u16>
 
 // The number that a first digit is.
 fn first_digit(byte: u8) -> Option<u16>
-    ensures some { IfSome result (λ n. (byte ∷ [] ≡ digits 16 false n) × IsWithin 1 15 n) }
+    ensures some { IfSome result (λ n. (byte ∷ [] ≡ digits 16 false n) × IsLimited 1 15 n) }
     ensures none { IfNone result ((v : ℕ) → 0 < v → v < 16 → byte ≡ digit_glyph false v → ⊥) }
 {
     let digit = digit_of(byte)?;
@@ -30,7 +30,7 @@ fn first_digit(byte: u8) -> Option<u16>
 
 // The number with one digit more.
 fn with_digit(number: u16, byte: u8) -> Option<u16>
-    requires { IsWithin 1 4095 number }
+    requires { IsLimited 1 4095 number }
     ensures some { IfSome result (λ n. (digits 16 false n ≡ digits 16 false number ++ byte ∷ [])
         × (n ≤ 16 * number + 15) × (16 * number ≤ n)) }
     ensures none { IfNone result (¬ IsGlyph byte) }
@@ -41,8 +41,8 @@ fn with_digit(number: u16, byte: u8) -> Option<u16>
 
 /// The number of a class that the word is.
 fn read_class(word: &[u8]) -> Option<u16>
-    ensures some { IfSome result (λ n. (word.now ≡ digits 16 false n) × IsWithin 1 65535 n) }
-    ensures none { IfNone result ((n : ℕ) → IsWithin 1 65535 n →
+    ensures some { IfSome result (λ n. (word.now ≡ digits 16 false n) × IsLimited 1 65535 n) }
+    ensures none { IfNone result ((n : ℕ) → IsLimited 1 65535 n →
         word.now ≡ digits 16 false n → ⊥) }
 {
     match word {
@@ -70,8 +70,8 @@ fn read_class(word: &[u8]) -> Option<u16>
 pub(crate) fn class_then(text: &[u8], byte: u8) -> Option<(u16, &[u8])>
     requires { byte < 48 }
     ensures some { IfSome result (λ r.
-        (text.now ≡ digits 16 false r.0 ++ byte ∷ r.1.now) × IsWithin 1 65535 r.0) }
-    ensures none { IfNone result ((n : ℕ) (rest : List ℕ) → IsWithin 1 65535 n →
+        (text.now ≡ digits 16 false r.0 ++ byte ∷ r.1.now) × IsLimited 1 65535 r.0) }
+    ensures none { IfNone result ((n : ℕ) (rest : List ℕ) → IsLimited 1 65535 n →
         text.now ≡ digits 16 false n ++ byte ∷ rest → ⊥) }
 {
     let (word, rest) = split_at_byte(text, byte)?;

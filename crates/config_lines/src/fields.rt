@@ -6,8 +6,8 @@ ghost use Rattle.merlin_base.specs.Addresses.{ip_text};
 ghost use Rattle.merlin_model.specs.declared.config.Match.{Match as Stated};
 ghost use Rattle.config_text.specs.Lines.{match_text};
 ghost use Rattle.config_lines.specs.declared.fields.Key.{Key as Name};
-ghost use Rattle.config_lines.specs.Words.{IsWithin};
-ghost use Rattle.config_lines.specs.Parts.{IsMatch, IsIpNumber};
+ghost use Rattle.config_lines.specs.Words.{IsLimited};
+ghost use Rattle.config_lines.specs.Parts.{IsLineMatch, IsIpNumber};
 ghost use Rattle.config_lines.specs.Fields.{key_word, rank, vlan_number_text, value_text, IsValue, field_text, vlan_of, match_with};
 
 use crate::addresses::{read_ip, read_mac};
@@ -89,8 +89,8 @@ fn rank(key: Key) -> usize
 // The tag that the word is, 0 for `none`.
 fn read_vlan(word: &[u8]) -> Option<u64>
     ensures some { IfSome result (λ n.
-        (word.now ≡ vlan_number_text n) × IsWithin 0 4094 n) }
-    ensures none { IfNone result ((n : ℕ) → IsWithin 0 4094 n →
+        (word.now ≡ vlan_number_text n) × IsLimited 0 4094 n) }
+    ensures none { IfNone result ((n : ℕ) → IsLimited 0 4094 n →
         word.now ≡ vlan_number_text n → ⊥) }
 {
     if word == b"none".as_slice() {
@@ -102,8 +102,8 @@ fn read_vlan(word: &[u8]) -> Option<u64>
 
 // The number within a range that the word is, among the numbers of all fields.
 fn read_up_to(word: &[u8], least: u16, most: u16) -> Option<u64>
-    ensures some { IfSome result (λ n. (word.now ≡ decimal n) × IsWithin least most n) }
-    ensures none { IfNone result ((n : ℕ) → IsWithin least most n → word.now ≡ decimal n → ⊥) }
+    ensures some { IfSome result (λ n. (word.now ≡ decimal n) × IsLimited least most n) }
+    ensures none { IfNone result ((n : ℕ) → IsLimited least most n → word.now ≡ decimal n → ⊥) }
 {
     let number = read_short(word, least, most)?;
     Some(u64::from(number))
@@ -194,8 +194,8 @@ fn read_field(part: &[u8]) -> Option<(Key, u64)>
 
 // The match that the word is: `any`, or fields joined by commas.
 fn read_match(word: &[u8]) -> Option<Match>
-    ensures some { IfSome result (λ m. (word.now ≡ match_text m) × IsMatch m) }
-    ensures none { IfNone result ((m : Stated) → IsMatch m → word.now ≡ match_text m → ⊥) }
+    ensures some { IfSome result (λ m. (word.now ≡ match_text m) × IsLineMatch m) }
+    ensures none { IfNone result ((m : Stated) → IsLineMatch m → word.now ≡ match_text m → ⊥) }
 {
     if word == b"any".as_slice() {
         return Some(ANY);
@@ -221,8 +221,8 @@ fn read_match(word: &[u8]) -> Option<Match>
 /// The match before the first blank, and what stands behind that.
 pub(crate) fn match_then(text: &[u8]) -> Option<(Match, &[u8])>
     ensures some { IfSome result (λ r.
-        (text.now ≡ match_text r.0 ++ 32 ∷ r.1.now) × IsMatch r.0) }
-    ensures none { IfNone result ((m : Stated) (rest : List ℕ) → IsMatch m →
+        (text.now ≡ match_text r.0 ++ 32 ∷ r.1.now) × IsLineMatch r.0) }
+    ensures none { IfNone result ((m : Stated) (rest : List ℕ) → IsLineMatch m →
         text.now ≡ match_text m ++ 32 ∷ rest → ⊥) }
 {
     let (word, rest) = split_at_byte(text, b' ')?;

@@ -4,7 +4,7 @@ ghost use Rattle.std.specs.Prelude.{ℕ, ◌≡◌, ◌<◌, ◌++◌, List, len
 ghost use Rattle.std.specs.List.{AllByRecursion};
 ghost use Rattle.merlin_model.specs.declared.config.Process.{Process as Stated};
 ghost use Rattle.config_text.specs.Lines.{function_name, functions_text};
-ghost use Rattle.config_lines.specs.Words.{IsFunction};
+ghost use Rattle.config_lines.specs.Words.{IsLineFunction};
 ghost use Rattle.config_lines.specs.Lines.{process_line, IsProcessLine};
 ghost use Rattle.config_lines.specs.Frames.{frame_text, IsFrame};
 
@@ -37,8 +37,8 @@ fn place_of(declared: &[FnDecl], name: &[u8]) -> Option<usize>
 /// The packet function that the word names.
 pub(crate) fn function_of(net: &Topology, word: &[u8]) -> Option<usize>
     ensures some { IfSome result (λ f.
-        (word.now ≡ function_name net.now.functions f) × IsFunction net.now f) }
-    ensures none { IfNone result ((f : ℕ) → IsFunction net.now f →
+        (word.now ≡ function_name net.now.functions f) × IsLineFunction net.now f) }
+    ensures none { IfNone result ((f : ℕ) → IsLineFunction net.now f →
         word.now ≡ function_name net.now.functions f → ⊥) }
 {
     if !is_identifier(word) {
@@ -55,9 +55,9 @@ fn read_functions(
 ) -> Result<Option<Items<usize>>, OutOfMemory>
     ensures some { IfOk result (λ o. IfSome o (λ fs.
         (word.now ≡ functions_text net.now.functions fs)
-        × AllByRecursion (IsFunction net.now) fs)) }
+        × AllByRecursion (IsLineFunction net.now) fs)) }
     ensures none { IfOk result (λ o. IfNone o ((fs : List ℕ) →
-        AllByRecursion (IsFunction net.now) fs →
+        AllByRecursion (IsLineFunction net.now) fs →
         word.now ≡ functions_text net.now.functions fs → ⊥)) }
 {
     let mut functions = Items::new(alloc);

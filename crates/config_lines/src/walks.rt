@@ -5,7 +5,7 @@ ghost use Rattle.std.specs.List.{AllByRecursion, join_with_byte};
 ghost use Rattle.merlin_model.specs.declared.policy.Symbol.{Symbol as Stated};
 ghost use Rattle.merlin_base.specs.Lexemes.{IsIdentifier, Lacks};
 ghost use Rattle.config_text.specs.Result.{symbol_text};
-ghost use Rattle.config_lines.specs.Parts.{IsSymbol};
+ghost use Rattle.config_lines.specs.Parts.{IsLineSymbol};
 ghost use Rattle.config_lines.specs.Lines.{walk_line, IsWalkLine};
 
 use crate::processes::function_of;
@@ -20,8 +20,8 @@ use topology::Topology;
 // The symbol that the word is.
 fn read_symbol(net: &Topology, word: &[u8]) -> Option<Symbol>
     ensures some { IfSome result (λ symbol.
-        (word.now ≡ symbol_text net.now symbol) × IsSymbol net.now symbol) }
-    ensures none { IfNone result ((symbol : Stated) → IsSymbol net.now symbol →
+        (word.now ≡ symbol_text net.now symbol) × IsLineSymbol net.now symbol) }
+    ensures none { IfNone result ((symbol : Stated) → IsLineSymbol net.now symbol →
         word.now ≡ symbol_text net.now symbol → ⊥) }
 {
     let Some((place, name)) = split_at_byte(word, b':') else {
@@ -44,9 +44,9 @@ fn read_symbols(
 ) -> Result<Option<Items<Symbol>>, OutOfMemory>
     ensures some { IfOk result (λ o. IfSome o (λ symbols.
         (text.now ≡ join_with_byte 32 (map (symbol_text net.now) symbols))
-        × AllByRecursion (IsSymbol net.now) symbols × (symbols ≢ []))) }
+        × AllByRecursion (IsLineSymbol net.now) symbols × (symbols ≢ []))) }
     ensures none { IfOk result (λ o. IfNone o ((symbols : List Stated) →
-        AllByRecursion (IsSymbol net.now) symbols → symbols ≢ [] →
+        AllByRecursion (IsLineSymbol net.now) symbols → symbols ≢ [] →
         text.now ≡ join_with_byte 32 (map (symbol_text net.now) symbols) → ⊥)) }
 {
     let mut symbols = Items::new(alloc);

@@ -4,7 +4,7 @@ ghost use Rattle.std.specs.Prelude.{ℕ, ◌≡◌, ◌≤◌, ◌<◌, ◌^◌,
 ghost use Rattle.std.specs.Fmt.{decimal};
 ghost use Rattle.merlin_model.specs.Networks.{Network};
 ghost use Rattle.config_text.specs.Lines.{name_at, rate_with_unit};
-ghost use Rattle.config_lines.specs.Words.{IsWithin, IsShort, IsLocation};
+ghost use Rattle.config_lines.specs.Words.{IsLimited, HasFewDigits, IsLocation};
 
 use merlin_base::{is_identifier, read_number, split_at_byte, strip_front};
 use topology::Topology;
@@ -15,8 +15,8 @@ pub(crate) const GREATEST_PORT: u16 = MAX_PORT as u16;
 
 /// The number within a range that the word is.
 pub(crate) fn read_short(word: &[u8], least: u16, most: u16) -> Option<u16>
-    ensures some { IfSome result (λ n. (word.now ≡ decimal n) × IsWithin least most n) }
-    ensures none { IfNone result ((n : ℕ) → IsWithin least most n → word.now ≡ decimal n → ⊥) }
+    ensures some { IfSome result (λ n. (word.now ≡ decimal n) × IsLimited least most n) }
+    ensures none { IfNone result ((n : ℕ) → IsLimited least most n → word.now ≡ decimal n → ⊥) }
 {
     let number = read_number(word)?;
     if number < usize::from(least) {
@@ -32,8 +32,8 @@ pub(crate) fn read_short(word: &[u8], least: u16, most: u16) -> Option<u16>
 pub(crate) fn short_then(text: &[u8], byte: u8, least: u16, most: u16) -> Option<(u16, &[u8])>
     requires { byte < 48 }
     ensures some { IfSome result (λ r.
-        (text.now ≡ decimal r.0 ++ byte ∷ r.1.now) × IsWithin least most r.0) }
-    ensures none { IfNone result ((n : ℕ) (rest : List ℕ) → IsWithin least most n →
+        (text.now ≡ decimal r.0 ++ byte ∷ r.1.now) × IsLimited least most r.0) }
+    ensures none { IfNone result ((n : ℕ) (rest : List ℕ) → IsLimited least most n →
         text.now ≡ decimal n ++ byte ∷ rest → ⊥) }
 {
     let (word, rest) = split_at_byte(text, byte)?;
@@ -45,8 +45,8 @@ pub(crate) fn short_then(text: &[u8], byte: u8, least: u16, most: u16) -> Option
 pub(crate) fn number_then(text: &[u8], byte: u8) -> Option<(u64, &[u8])>
     requires { byte < 48 }
     ensures some { IfSome result (λ r.
-        (text.now ≡ decimal r.0 ++ byte ∷ r.1.now) × IsShort r.0) }
-    ensures none { IfNone result ((n : ℕ) (rest : List ℕ) → IsShort n →
+        (text.now ≡ decimal r.0 ++ byte ∷ r.1.now) × HasFewDigits r.0) }
+    ensures none { IfNone result ((n : ℕ) (rest : List ℕ) → HasFewDigits n →
         text.now ≡ decimal n ++ byte ∷ rest → ⊥) }
 {
     let (word, rest) = split_at_byte(text, byte)?;
@@ -57,8 +57,8 @@ pub(crate) fn number_then(text: &[u8], byte: u8) -> Option<(u64, &[u8])>
 /// The rate before its unit and a text behind that, and what stands behind the two.
 pub(crate) fn rate_then<'a>(text: &'a [u8], behind: &[u8]) -> Option<(u64, &'a [u8])>
     ensures some { IfSome result (λ r.
-        (text.now ≡ rate_with_unit r.0 ++ (behind.now ++ r.1.now)) × IsShort r.0) }
-    ensures none { IfNone result ((n : ℕ) (rest : List ℕ) → IsShort n →
+        (text.now ≡ rate_with_unit r.0 ++ (behind.now ++ r.1.now)) × HasFewDigits r.0) }
+    ensures none { IfNone result ((n : ℕ) (rest : List ℕ) → HasFewDigits n →
         text.now ≡ rate_with_unit n ++ (behind.now ++ rest) → ⊥) }
 {
     let (word, rest) = split_at_byte(text, b'k')?;

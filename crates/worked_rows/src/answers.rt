@@ -4,7 +4,7 @@ use crate::lines::Lines;
 use crate::policies::Asked;
 use crate::store::{Store, content, memory};
 use crate::texts::parted;
-use crate::{deliveries, networks, outside, packets, policies, tokens, trees};
+use crate::{comparisons, deliveries, networks, outside, packets, policies, tokens, trees};
 use merlin::run;
 use merlin_base::{MemoryFiles, MemorySink, OutOfMemory};
 use packet_model::Packet;
@@ -119,6 +119,7 @@ pub fn answer_to(
         "cells" => policies::answer_to(alloc, rest, store, Asked::Cells, out),
         "count" => policies::answer_to(alloc, rest, store, Asked::CellCount, out),
         "topology" => networks::answer_to(alloc, rest, store, networks::Asked::Whole, out),
+        "compare" => comparisons::answer_to(alloc, rest, store, out),
         "delivery" => deliveries::answer_to(alloc, rest, store, out),
         "tree" => trees::answer_to(alloc, rest, store, out),
         _ => run_program(alloc, line, store, failing_reads, failing_writes, out),

@@ -4,6 +4,7 @@
 
 mod answers;
 mod automata;
+mod comparisons;
 mod deliveries;
 mod lines;
 mod networks;

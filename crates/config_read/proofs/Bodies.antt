@@ -1,0 +1,119 @@
+-- The lines of a result behind its second line, kind by kind, up to the tree.
+use Rattle.std.proofs.Common.{◌≡◌, ◌≢◌, ℕ, ◌⊎◌, inl, inr, List, ◌∷◌, refl, arith}
+use Rattle.merlin_model.specs.declared.config.Rule.{Rule}
+use Rattle.merlin_model.specs.declared.config.Process.{Process}
+use Rattle.merlin_model.specs.declared.config.Queue.{Queue}
+use Rattle.merlin_model.specs.declared.config.HostLine.{HostLine}
+use Rattle.merlin_model.specs.declared.config.HostLine.TheVariants as on_host
+use Rattle.merlin_model.specs.declared.config.Config.{Config}
+use Rattle.merlin_model.specs.declared.certificate.Tree.{Tree}
+use Rattle.merlin_model.specs.Networks.{Network}
+use Rattle.merlin_base.specs.Faults.{GoesWrong}
+use Rattle.config_lines.specs.Lines.{rule_line, IsRuleLine, process_line, IsProcessLine, queue_line, IsQueueLine, host_line, IsHostLine}
+use Rattle.config_read.specs.Sections.{TakesConfig}
+use Rattle.config_read.specs.Tails.{tree_text, IsTree}
+use Rattle.config_read.proofs.Stars.{AreApart, Begin, star_text, IsStar, star_wrong, begin_apart, star_begin}
+use Rattle.config_read.proofs.LineKinds.{rule_lines, process_lines, queue_lines}
+use Rattle.config_read.proofs.HostKinds.{host_lines}
+
+-- From each kind of line on, to the end.
+
+abbrev pub from_hosts : Network → List HostLine × Tree → List ℕ
+from_hosts net = star_text (host_line net) tree_text
+
+abbrev pub AreHosts : Network → List HostLine × Tree → Type 0
+AreHosts net = IsStar (IsHostLine net) IsTree
+
+abbrev pub from_queues : Network → List Queue × (List HostLine × Tree) → List ℕ
+from_queues net = star_text (queue_line net) (from_hosts net)
+
+abbrev pub AreQueues : Network → List Queue × (List HostLine × Tree) → Type 0
+AreQueues net = IsStar (IsQueueLine net) (AreHosts net)
+
+abbrev pub from_processes : Network → List Process × (List Queue × (List HostLine × Tree)) → List ℕ
+from_processes net = star_text (process_line net) (from_queues net)
+
+abbrev pub AreProcesses : Network → List Process × (List Queue × (List HostLine × Tree)) → Type 0
+AreProcesses net = IsStar (IsProcessLine net) (AreQueues net)
+
+abbrev pub from_rules : Network → List Rule × (List Process × (List Queue × (List HostLine × Tree))) → List ℕ
+from_rules net = star_text (rule_line net) (from_processes net)
+
+abbrev pub AreRules : Network → List Rule × (List Process × (List Queue × (List HostLine × Tree))) → Type 0
+AreRules net = IsStar (IsRuleLine net) (AreProcesses net)
+
+-- Their first bytes: t of `tree`, h of `host`, q of `queue`, p of `process`, r of `rule`.
+
+Tree_begins : ℕ → Type 0
+Tree_begins c = c ≡ 116
+
+Hosts_begin : ℕ → Type 0
+Hosts_begin c = (c ≡ 104) ⊎ Tree_begins c
+
+Queues_begin : ℕ → Type 0
+Queues_begin c = (c ≡ 113) ⊎ Hosts_begin c
+
+Processes_begin : ℕ → Type 0
+Processes_begin c = (c ≡ 112) ⊎ Queues_begin c
+
+tree_begins : Begin Tree_begins tree_text IsTree
+unfolding Tree_begins
+tree_begins t is = (116, _, refl, refl)
+
+host_heads : (net : Network) (h : HostLine) → (cs : List ℕ) × (host_line net h ≡ 104 ∷ cs)
+host_heads net (on_host.Root host) = (_, refl)
+host_heads net (on_host.Class host class rate ceil) = (_, refl)
+host_heads net (on_host.Classify host m class) = (_, refl)
+host_heads net (on_host.Leave host m) = (_, refl)
+host_heads net (on_host.Output host m drop) = (_, refl)
+
+hosts_begin : (net : Network) → Begin Hosts_begin (from_hosts net) (AreHosts net)
+unfolding Hosts_begin
+hosts_begin net = star_begin (host_line net) (IsHostLine net) tree_text IsTree 104 Tree_begins Hosts_begin (host_heads net) tree_begins (inl refl) (λ c p. inr p)
+
+queues_begin : (net : Network) → Begin Queues_begin (from_queues net) (AreQueues net)
+unfolding Queues_begin
+queues_begin net = star_begin (queue_line net) (IsQueueLine net) (from_hosts net) (AreHosts net) 113 Hosts_begin Queues_begin (λ q. (_, refl)) (hosts_begin net) (inl refl) (λ c p. inr p)
+
+processes_begin : (net : Network) → Begin Processes_begin (from_processes net) (AreProcesses net)
+unfolding Processes_begin
+processes_begin net = star_begin (process_line net) (IsProcessLine net) (from_queues net) (AreQueues net) 112 Queues_begin Processes_begin (λ p. (_, refl)) (queues_begin net) (inl refl) (λ c p. inr p)
+
+hosts_apart : (net : Network) → AreApart (host_line net) (IsHostLine net) tree_text IsTree
+unfolding Tree_begins
+hosts_apart net = begin_apart (host_line net) (IsHostLine net) tree_text IsTree 104 Tree_begins (host_heads net) tree_begins (λ c p e. omega arith)
+
+queues_apart : (net : Network) → AreApart (queue_line net) (IsQueueLine net) (from_hosts net) (AreHosts net)
+unfolding Tree_begins Hosts_begin
+queues_apart net = begin_apart (queue_line net) (IsQueueLine net) (from_hosts net) (AreHosts net) 113 Hosts_begin (λ q. (_, refl)) (hosts_begin net) differ
+  where
+    differ : (c : ℕ) → Hosts_begin c → c ≢ 113
+    differ c (inl p) e = omega arith
+    differ c (inr p) e = omega arith
+
+processes_apart : (net : Network) → AreApart (process_line net) (IsProcessLine net) (from_queues net) (AreQueues net)
+unfolding Tree_begins Hosts_begin Queues_begin
+processes_apart net = begin_apart (process_line net) (IsProcessLine net) (from_queues net) (AreQueues net) 112 Queues_begin (λ p. (_, refl)) (queues_begin net) differ
+  where
+    differ : (c : ℕ) → Queues_begin c → c ≢ 112
+    differ c (inl p) e = omega arith
+    differ c (inr (inl p)) e = omega arith
+    differ c (inr (inr p)) e = omega arith
+
+rules_apart : (net : Network) → AreApart (rule_line net) (IsRuleLine net) (from_processes net) (AreProcesses net)
+unfolding Tree_begins Hosts_begin Queues_begin Processes_begin
+rules_apart net = begin_apart (rule_line net) (IsRuleLine net) (from_processes net) (AreProcesses net) 114 Processes_begin (λ r. (_, refl)) (processes_begin net) differ
+  where
+    differ : (c : ℕ) → Processes_begin c → c ≢ 114
+    differ c (inl p) e = omega arith
+    differ c (inr (inl p)) e = omega arith
+    differ c (inr (inr (inl p))) e = omega arith
+    differ c (inr (inr (inr p))) e = omega arith
+
+-- Where the tree goes wrong, so do all lines from the rules on.
+pub config_wrong : (net : Network) (text rest : List ℕ) (config : Config) (left : ℕ) → TakesConfig net text config rest → GoesWrong tree_text IsTree rest left → GoesWrong (from_rules net) (AreRules net) text left
+config_wrong net text rest config left t g =
+    star_wrong (rule_line net) (IsRuleLine net) (from_processes net) (AreProcesses net) (rule_lines net) (rules_apart net) text config.rules t.behind_rules left t.rules
+    (star_wrong (process_line net) (IsProcessLine net) (from_queues net) (AreQueues net) (process_lines net) (processes_apart net) t.behind_rules config.processes t.behind_processes left t.processes
+    (star_wrong (queue_line net) (IsQueueLine net) (from_hosts net) (AreHosts net) (queue_lines net) (queues_apart net) t.behind_processes config.queues t.behind_queues left t.queues
+    (star_wrong (host_line net) (IsHostLine net) tree_text IsTree (host_lines net) (hosts_apart net) t.behind_queues config.hosts rest left t.hosts g)))

@@ -1,0 +1,7 @@
+pub mod Taking
+pub mod Stars
+pub mod LineKinds
+pub mod HostKinds
+pub mod TreeTails
+pub mod Bodies
+pub mod HeadTexts

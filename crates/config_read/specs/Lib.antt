@@ -1,0 +1,5 @@
+pub mod Sections
+pub mod Tails
+pub mod Heads
+pub mod Results
+pub mod Answers

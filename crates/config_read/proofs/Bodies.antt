@@ -11,7 +11,7 @@ use Rattle.merlin_model.specs.Networks.{Network}
 use Rattle.merlin_base.specs.Faults.{GoesWrong}
 use Rattle.config_lines.specs.Lines.{rule_line, IsRuleLine, process_line, IsProcessLine, queue_line, IsQueueLine, host_line, IsHostLine}
 use Rattle.config_read.specs.Sections.{TakesConfig}
-use Rattle.config_read.specs.Tails.{tree_text, IsTree}
+use Rattle.config_read.specs.Tails.{closing_tree, IsTree}
 use Rattle.config_read.proofs.Stars.{AreApart, Begin, star_text, IsStar, star_wrong, begin_apart, star_begin}
 use Rattle.config_read.proofs.LineKinds.{rule_lines, process_lines, queue_lines}
 use Rattle.config_read.proofs.HostKinds.{host_lines}
@@ -19,7 +19,7 @@ use Rattle.config_read.proofs.HostKinds.{host_lines}
 -- From each kind of line on, to the end.
 
 abbrev pub from_hosts : Network → List HostLine × Tree → List ℕ
-from_hosts net = star_text (host_line net) tree_text
+from_hosts net = star_text (host_line net) closing_tree
 
 abbrev pub AreHosts : Network → List HostLine × Tree → Type 0
 AreHosts net = IsStar (IsHostLine net) IsTree
@@ -56,7 +56,7 @@ Queues_begin c = (c ≡ 113) ⊎ Hosts_begin c
 Processes_begin : ℕ → Type 0
 Processes_begin c = (c ≡ 112) ⊎ Queues_begin c
 
-tree_begins : Begin Tree_begins tree_text IsTree
+tree_begins : Begin Tree_begins closing_tree IsTree
 unfolding Tree_begins
 tree_begins t is = (116, _, refl, refl)
 
@@ -69,7 +69,7 @@ host_heads net (on_host.Output host m drop) = (_, refl)
 
 hosts_begin : (net : Network) → Begin Hosts_begin (from_hosts net) (AreHosts net)
 unfolding Hosts_begin
-hosts_begin net = star_begin (host_line net) (IsHostLine net) tree_text IsTree 104 Tree_begins Hosts_begin (host_heads net) tree_begins (inl refl) (λ c p. inr p)
+hosts_begin net = star_begin (host_line net) (IsHostLine net) closing_tree IsTree 104 Tree_begins Hosts_begin (host_heads net) tree_begins (inl refl) (λ c p. inr p)
 
 queues_begin : (net : Network) → Begin Queues_begin (from_queues net) (AreQueues net)
 unfolding Queues_begin
@@ -79,9 +79,9 @@ processes_begin : (net : Network) → Begin Processes_begin (from_processes net)
 unfolding Processes_begin
 processes_begin net = star_begin (process_line net) (IsProcessLine net) (from_queues net) (AreQueues net) 112 Queues_begin Processes_begin (λ p. (_, refl)) (queues_begin net) (inl refl) (λ c p. inr p)
 
-hosts_apart : (net : Network) → AreApart (host_line net) (IsHostLine net) tree_text IsTree
+hosts_apart : (net : Network) → AreApart (host_line net) (IsHostLine net) closing_tree IsTree
 unfolding Tree_begins
-hosts_apart net = begin_apart (host_line net) (IsHostLine net) tree_text IsTree 104 Tree_begins (host_heads net) tree_begins (λ c p e. omega arith)
+hosts_apart net = begin_apart (host_line net) (IsHostLine net) closing_tree IsTree 104 Tree_begins (host_heads net) tree_begins (λ c p e. omega arith)
 
 queues_apart : (net : Network) → AreApart (queue_line net) (IsQueueLine net) (from_hosts net) (AreHosts net)
 unfolding Tree_begins Hosts_begin
@@ -111,9 +111,9 @@ rules_apart net = begin_apart (rule_line net) (IsRuleLine net) (from_processes n
     differ c (inr (inr (inr p))) e = omega arith
 
 -- Where the tree goes wrong, so do all lines from the rules on.
-pub config_wrong : (net : Network) (text rest : List ℕ) (config : Config) (left : ℕ) → TakesConfig net text config rest → GoesWrong tree_text IsTree rest left → GoesWrong (from_rules net) (AreRules net) text left
+pub config_wrong : (net : Network) (text rest : List ℕ) (config : Config) (left : ℕ) → TakesConfig net text config rest → GoesWrong closing_tree IsTree rest left → GoesWrong (from_rules net) (AreRules net) text left
 config_wrong net text rest config left t g =
     star_wrong (rule_line net) (IsRuleLine net) (from_processes net) (AreProcesses net) (rule_lines net) (rules_apart net) text config.rules t.behind_rules left t.rules
     (star_wrong (process_line net) (IsProcessLine net) (from_queues net) (AreQueues net) (process_lines net) (processes_apart net) t.behind_rules config.processes t.behind_processes left t.processes
     (star_wrong (queue_line net) (IsQueueLine net) (from_hosts net) (AreHosts net) (queue_lines net) (queues_apart net) t.behind_processes config.queues t.behind_queues left t.queues
-    (star_wrong (host_line net) (IsHostLine net) tree_text IsTree (host_lines net) (hosts_apart net) t.behind_queues config.hosts rest left t.hosts g)))
+    (star_wrong (host_line net) (IsHostLine net) closing_tree IsTree (host_lines net) (hosts_apart net) t.behind_queues config.hosts rest left t.hosts g)))

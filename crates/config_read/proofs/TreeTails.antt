@@ -8,7 +8,7 @@ use Rattle.merlin_base.specs.NodeTexts.{nodes_text}
 use Rattle.merlin_base.specs.Skipping.{EndsNodesAt, StopsNodesAt}
 use Rattle.merlin_base.proofs.Cutting.{Free}
 use Rattle.merlin_base.proofs.TreeSkips.{one_leaf}
-use Rattle.config_read.specs.Tails.{tree_text, IsTree, BeginsTree}
+use Rattle.config_read.specs.Tails.{closing_tree, IsTree, BeginsTree}
 use Rattle.config_read.proofs.Stars.{seq_wrong, no_front}
 
 pub some_tree : IsTree (Leaf [])
@@ -17,10 +17,10 @@ some_tree = one_leaf false 4095
 tree_word : Free 10 (codes "tree")
 tree_word = ((λ e. omega arith), ((λ e. omega arith), ((λ e. omega arith), ((λ e. omega arith), tt))))
 
-pub no_tree : (text : List ℕ) → ((rest : List ℕ) → text ≡ codes "tree\n" ++ rest → ⊥) → GoesWrong tree_text IsTree text (length text)
+pub no_tree : (text : List ℕ) → ((rest : List ℕ) → text ≡ codes "tree\n" ++ rest → ⊥) → GoesWrong closing_tree IsTree text (length text)
 no_tree text none = no_front (codes "tree") nodes_text IsTree text (Leaf []) some_tree tree_word none
 
-pub wrong_nodes : (text nodes : List ℕ) (at : ℕ) → text ≡ codes "tree\n" ++ nodes → StopsNodesAt false nodes 0 at → GoesWrong tree_text IsTree text (length nodes - at)
+pub wrong_nodes : (text nodes : List ℕ) (at : ℕ) → text ≡ codes "tree\n" ++ nodes → StopsNodesAt false nodes 0 at → GoesWrong closing_tree IsTree text (length nodes - at)
 wrong_nodes text nodes at e stops = seq_wrong (codes "tree\n") nodes_text IsTree text nodes (length nodes - at) (inr (codes "tree", refl)) e stops.goes_wrong
 
 behind_all : (front rest : List ℕ) → drop (length front) (front ++ rest) ≡ rest

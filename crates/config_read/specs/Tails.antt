@@ -5,8 +5,8 @@ use Rattle.merlin_model.specs.declared.limits.TheConstants.{MAX_NODES}
 use Rattle.merlin_base.specs.NodeTexts.{nodes_text, IsTakenTree}
 
 -- the line `tree`, the nodes and the line `end`
-abbrev pub tree_text : Tree → List ℕ
-tree_text tree = codes "tree\n" ++ nodes_text tree
+abbrev pub closing_tree : Tree → List ℕ
+closing_tree tree = codes "tree\n" ++ nodes_text tree
 
 -- a tree within the limits, without open ends
 abbrev pub IsTree : Tree → Type 0
@@ -15,4 +15,4 @@ IsTree = IsTakenTree false MAX_NODES
 pub record BeginsTree (text rest : List ℕ) : Type 0 where
   pub tree : Tree
   pub is : IsTree tree
-  pub whole : text ≡ tree_text tree ++ rest
+  pub whole : text ≡ closing_tree tree ++ rest

@@ -2,7 +2,7 @@
 
 ghost use Rattle.std.specs.Prelude.{IfOk, IfErr};
 ghost use Rattle.merlin_base.specs.Faults.{GoesWrong};
-ghost use Rattle.config_read.specs.Tails.{tree_text, IsTree, BeginsTree};
+ghost use Rattle.config_read.specs.Tails.{closing_tree, IsTree, BeginsTree};
 
 use merlin_base::{skip_nodes, strip_front};
 
@@ -10,7 +10,7 @@ use merlin_base::{skip_nodes, strip_front};
 /// first wrong line on.
 pub fn skip_tree(text: &[u8]) -> Result<&[u8], usize>
     ensures ok { IfOk result (λ rest. BeginsTree text.now rest.now) }
-    ensures err { IfErr result (GoesWrong tree_text IsTree text.now) }
+    ensures err { IfErr result (GoesWrong closing_tree IsTree text.now) }
 {
     let Some(nodes) = strip_front(text, b"tree\n") else {
         return Err(text.len());

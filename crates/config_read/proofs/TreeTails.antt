@@ -8,7 +8,7 @@ use Rattle.merlin_base.specs.NodeTexts.{nodes_text}
 use Rattle.merlin_base.specs.Skipping.{EndsNodesAt, StopsNodesAt}
 use Rattle.merlin_base.proofs.Cutting.{Free}
 use Rattle.merlin_base.proofs.TreeSkips.{one_leaf}
-use Rattle.config_read.specs.Tails.{closing_tree, IsTree, BeginsTree}
+use Rattle.config_read.specs.Tails.{closing_tree, IsTree, BeginsWithTree}
 use Rattle.config_read.proofs.Stars.{seq_wrong, no_front}
 
 pub some_tree : IsTree (Leaf [])
@@ -33,8 +33,8 @@ behind whole front rest end e place =
     let same : end ≡ length front = omega arith in
     ap (λ k. drop k whole) same ∙ ap (drop (length front)) e ∙ behind_all front rest
 
-pub tree_read : (text nodes : List ℕ) (end : ℕ) → text ≡ codes "tree\n" ++ nodes → EndsNodesAt false nodes 0 end → BeginsTree text (take (length nodes - end) (drop end nodes))
-tree_read text nodes end e ends = subst (BeginsTree text) (sym (take_all (length nodes - end) (drop end nodes) (let n = length-drop end nodes in omega arith))) (record {
+pub tree_read : (text nodes : List ℕ) (end : ℕ) → text ≡ codes "tree\n" ++ nodes → EndsNodesAt false nodes 0 end → BeginsWithTree text (take (length nodes - end) (drop end nodes))
+tree_read text nodes end e ends = subst (BeginsWithTree text) (sym (take_all (length nodes - end) (drop end nodes) (let n = length-drop end nodes in omega arith))) (record {
   tree = ends.begins.tree;
   is = ends.begins.taken;
   whole = e ∙ ap (λ z. codes "tree\n" ++ z) (ends.begins.whole ∙ ap (λ z. nodes_text ends.begins.tree ++ z) (sym (behind nodes (nodes_text ends.begins.tree) ends.rest end ends.begins.whole ends.place)))

@@ -7,16 +7,16 @@ use Rattle.config_lines.specs.Words.{HasFewDigits}
 abbrev pub IsVersion : ℕ → Type 0
 IsVersion version = (version ≡ 1) ⊎ (version ≡ 2)
 
-abbrev pub kind_word : Bool → List ℕ
-kind_word true = codes "ok\n"
-kind_word false = codes "infeasible\n"
+abbrev pub outcome_word : Bool → List ℕ
+outcome_word true = codes "ok\n"
+outcome_word false = codes "infeasible\n"
 
 -- the version, which is one digit, and whether there is an assignment
 abbrev pub first_line : ℕ → Bool → List ℕ
-first_line version feasible = codes "merlin " ++ (48 + version) ∷ 32 ∷ kind_word feasible
+first_line version feasible = codes "merlin " ++ (48 + version) ∷ 32 ∷ outcome_word feasible
 
 -- a value as it is written: a number, or a load of a capacity
-abbrev pub IsValueText : List ℕ → Type 0
-IsValueText text =
+abbrev pub IsWrittenValue : List ℕ → Type 0
+IsWrittenValue text =
     ((n : ℕ) × HasFewDigits n × (text ≡ decimal n))
     ⊎ ((load : ℕ) × (capacity : ℕ) × HasFewDigits load × HasFewDigits capacity × (text ≡ ratio_text load capacity))

@@ -9,7 +9,7 @@ use Rattle.config_text.specs.Result.{objective_word}
 use Rattle.config_lines.specs.Lines.{rule_line, IsRuleLine, process_line, IsProcessLine, queue_line, IsQueueLine, host_line, IsHostLine, load_line, IsLoadLine, walk_line, IsWalkLine}
 use Rattle.config_read.specs.Sections.{IsEmptyConfig}
 use Rattle.config_read.specs.Tails.{IsTree}
-use Rattle.config_read.specs.Heads.{first_line, IsVersion, IsValueText}
+use Rattle.config_read.specs.Heads.{first_line, IsVersion, IsWrittenValue}
 use Rattle.config_read.specs.declared.result.Head.{Head}
 use Rattle.config_read.specs.declared.result.Head.TheVariants.{Least, Infeasible}
 use Rattle.config_read.specs.declared.result.ResultText.{ResultText}
@@ -19,10 +19,10 @@ is_feasible (Least objective value walks loads) = true
 is_feasible (Infeasible objective) = false
 
 -- the other lines before the configuration
-abbrev pub head_lines : Network → Head → List ℕ
-head_lines net (Least objective value walks loads) =
+abbrev pub lines_of_head : Network → Head → List ℕ
+lines_of_head net (Least objective value walks loads) =
     codes "objective " ++ (objective_word objective ++ 32 ∷ (value ++ 10 ∷ (flat_map (walk_line net) walks ++ flat_map (load_line net) loads)))
-head_lines net (Infeasible objective) = codes "objective " ++ (objective_word objective ++ 10 ∷ [])
+lines_of_head net (Infeasible objective) = codes "objective " ++ (objective_word objective ++ 10 ∷ [])
 
 abbrev pub lines_of : Network → Config → List ℕ
 lines_of net config =
@@ -31,7 +31,7 @@ lines_of net config =
 
 -- what stands before the first node
 abbrev pub start_text : Network → ResultText → List ℕ
-start_text net r = first_line r.version (is_feasible r.head) ++ (head_lines net r.head ++ (lines_of net r.config ++ codes "tree\n"))
+start_text net r = first_line r.version (is_feasible r.head) ++ (lines_of_head net r.head ++ (lines_of net r.config ++ codes "tree\n"))
 
 -- a result, and the tree that stands in it
 abbrev pub result_text : Network → ResultText × Tree → List ℕ
@@ -40,7 +40,7 @@ result_text net r = start_text net r.0 ++ nodes_text r.1
 -- loads stand in version 2 alone
 abbrev pub IsHead : Network → ℕ → Head → Type 0
 IsHead net version (Least objective value walks loads) =
-    IsValueText value × AllByRecursion (IsWalkLine net) walks × AllByRecursion (IsLoadLine net) loads × (version ≡ 1 → loads ≡ [])
+    IsWrittenValue value × AllByRecursion (IsWalkLine net) walks × AllByRecursion (IsLoadLine net) loads × (version ≡ 1 → loads ≡ [])
 IsHead net version (Infeasible objective) = Unit {0}
 
 pub record IsConfig (net : Network) (config : Config) : Type 0 where

@@ -12,7 +12,7 @@ closing_tree tree = codes "tree\n" ++ nodes_text tree
 abbrev pub IsTree : Tree → Type 0
 IsTree = IsTakenTree false MAX_NODES
 
-pub record BeginsTree (text rest : List ℕ) : Type 0 where
+pub record BeginsWithTree (text rest : List ℕ) : Type 0 where
   pub tree : Tree
   pub is : IsTree tree
   pub whole : text ≡ closing_tree tree ++ rest

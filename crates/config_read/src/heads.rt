@@ -6,7 +6,7 @@ ghost use Rattle.merlin_model.specs.declared.policy.Objective.{Objective as Stat
 ghost use Rattle.config_text.specs.Loads.{ratio_text};
 ghost use Rattle.config_text.specs.Result.{objective_word};
 ghost use Rattle.config_lines.specs.Words.{HasFewDigits};
-ghost use Rattle.config_read.specs.Heads.{first_line, IsVersion, IsValueText};
+ghost use Rattle.config_read.specs.Heads.{first_line, IsVersion, IsWrittenValue};
 
 use merlin_base::{read_number, split_at_byte, strip_front};
 use merlin_model::policy::Objective;
@@ -72,8 +72,8 @@ fn is_short(word: &[u8]) -> bool
 
 // Whether the word is a value: a number, or a load of a capacity.
 fn is_value(word: &[u8]) -> bool
-    ensures yes { result ≡ true → IsValueText word.now }
-    ensures no { result ≡ false → ¬ IsValueText word.now }
+    ensures yes { result ≡ true → IsWrittenValue word.now }
+    ensures no { result ≡ false → ¬ IsWrittenValue word.now }
 {
     match split_at_byte(word, b'/') {
         Some((load, capacity)) => is_short(load) && is_short(capacity),
@@ -84,8 +84,8 @@ fn is_value(word: &[u8]) -> bool
 /// The value before the end of the line, as it stands there, and what stands behind the line.
 pub fn value_then(text: &[u8]) -> Option<(&[u8], &[u8])>
     ensures some { IfSome result (λ r. (text.now ≡ r.0.now ++ 10 ∷ r.1.now)
-        × IsValueText r.0.now) }
-    ensures none { IfNone result ((value rest : List ℕ) → IsValueText value →
+        × IsWrittenValue r.0.now) }
+    ensures none { IfNone result ((value rest : List ℕ) → IsWrittenValue value →
         text.now ≡ value ++ 10 ∷ rest → ⊥) }
 {
     let (word, rest) = split_at_byte(text, b'\n')?;

@@ -2,14 +2,14 @@
 
 ghost use Rattle.std.specs.Prelude.{IfOk, IfErr};
 ghost use Rattle.merlin_base.specs.Faults.{GoesWrong};
-ghost use Rattle.config_read.specs.Tails.{closing_tree, IsTree, BeginsTree};
+ghost use Rattle.config_read.specs.Tails.{closing_tree, IsTree, BeginsWithTree};
 
 use merlin_base::{skip_nodes, strip_front};
 
 /// What stands behind the line `tree`, the nodes of a tree and the line `end` with which the text begins. An error says how much is left from the
 /// first wrong line on.
 pub fn skip_tree(text: &[u8]) -> Result<&[u8], usize>
-    ensures ok { IfOk result (λ rest. BeginsTree text.now rest.now) }
+    ensures ok { IfOk result (λ rest. BeginsWithTree text.now rest.now) }
     ensures err { IfErr result (GoesWrong closing_tree IsTree text.now) }
 {
     let Some(nodes) = strip_front(text, b"tree\n") else {

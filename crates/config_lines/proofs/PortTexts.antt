@@ -11,7 +11,7 @@ use Rattle.merlin_base.proofs.Decimals.{decimal_same, decimal_free, is_decimal}
 use Rattle.config_text.specs.Lines.{proto_text}
 use Rattle.config_lines.specs.declared.hosts.Ports.{Ports}
 use Rattle.config_lines.specs.Words.{IsOptional}
-use Rattle.config_lines.specs.Parts.{IsByte, IsDouble, MayNamePorts}
+use Rattle.config_lines.specs.Parts.{HasOneByte, HasTwoBytes, MayNamePorts}
 use Rattle.config_lines.specs.Hosts.{option_then, ports_then, ArePorts}
 use Rattle.config_lines.proofs.Then.{double_free}
 
@@ -26,7 +26,7 @@ thirds a b c d f g x y e = cc
 
 -- Protocols.
 
-decimal_letter : (n : ℕ) (rest : List ℕ) (letter : ℕ) → IsByte n → 57 < letter → decimal n ≡ letter ∷ rest → ⊥
+decimal_letter : (n : ℕ) (rest : List ℕ) (letter : ℕ) → HasOneByte n → 57 < letter → decimal n ≡ letter ∷ rest → ⊥
 decimal_letter n rest letter small high e = (let d = (subst (AllByRecursion IsDigit) e (recursion_from_All IsDigit (decimal n) (is_decimal n (omega arith)).digits)).0 in omega arith)
 
 -- the protocol by its number, and its text
@@ -41,7 +41,7 @@ proto-is n = by (n == 6) refl (n == 17) refl
     by false e true f = record { is = inr (inl (grind arith, refl)) }
     by false e false f = record { is = inr (inr (grind arith, grind arith, refl)) }
 
-pub proto_free : (byte n : ℕ) → byte < 48 → IsByte n → Free byte (proto_text n)
+pub proto_free : (byte n : ℕ) → byte < 48 → HasOneByte n → Free byte (proto_text n)
 proto_free byte n low small = by (n == 6) (n == 17)
   where
     by : (b d : Bool) → Free byte (cond b (codes "tcp") (cond d (codes "udp") (decimal n)))
@@ -49,7 +49,7 @@ proto_free byte n low small = by (n == 6) (n == 17)
     by false true = ((λ e. omega arith), ((λ e. omega arith), ((λ e. omega arith), tt)))
     by false false = decimal_free byte n (omega arith) low
 
-pub proto_same : (m n : ℕ) → IsByte m → IsByte n → proto_text m ≡ proto_text n → m ≡ n
+pub proto_same : (m n : ℕ) → HasOneByte m → HasOneByte n → proto_text m ≡ proto_text n → m ≡ n
 proto_same m n f g e = by (proto-is m).is (proto-is n).is
   where
     by : ((m ≡ 6) × (proto_text m ≡ codes "tcp")) ⊎ ((m ≡ 17) × (proto_text m ≡ codes "udp")) ⊎ ((m ≢ 6) × (m ≢ 17) × (proto_text m ≡ decimal m)) →
@@ -65,7 +65,7 @@ proto_same m n f g e = by (proto-is m).is (proto-is n).is
     by (inr (inr a)) (inr (inr b)) = decimal_same m n (omega arith) (omega arith) (sym a.2 ∙ e ∙ b.2)
 
 -- a word is no protocol
-pub no_proto : (word : List ℕ) → (word ≡ codes "tcp" → ⊥) → (word ≡ codes "udp" → ⊥) → ((n : ℕ) → IsByte n → n ≢ 6 → n ≢ 17 → word ≡ decimal n → ⊥) → (n : ℕ) → IsByte n → word ≡ proto_text n → ⊥
+pub no_proto : (word : List ℕ) → (word ≡ codes "tcp" → ⊥) → (word ≡ codes "udp" → ⊥) → ((n : ℕ) → HasOneByte n → n ≢ 6 → n ≢ 17 → word ≡ decimal n → ⊥) → (n : ℕ) → HasOneByte n → word ≡ proto_text n → ⊥
 no_proto word tcp udp number n small e = by (proto-is n).is
   where
     by : ((n ≡ 6) × (proto_text n ≡ codes "tcp")) ⊎ ((n ≡ 17) × (proto_text n ≡ codes "udp")) ⊎ ((n ≢ 6) × (n ≢ 17) × (proto_text n ≡ decimal n)) → ⊥
@@ -87,7 +87,7 @@ proto_number n f g = by (proto-is n).is
 pub LacksFront : List ℕ → List ℕ → Type 0
 LacksFront name text = (rest : List ℕ) → text ≡ name ++ rest → ⊥
 
-pub option_same : (name : List ℕ) (o p : Option ℕ) (text x y : List ℕ) → text ≡ option_then name decimal o x → text ≡ option_then name decimal p y → IsOptional IsDouble o → IsOptional IsDouble p → (o ≡ None → LacksFront name text) → (p ≡ None → LacksFront name text) → x ≡ y
+pub option_same : (name : List ℕ) (o p : Option ℕ) (text x y : List ℕ) → text ≡ option_then name decimal o x → text ≡ option_then name decimal p y → IsOptional HasTwoBytes o → IsOptional HasTwoBytes p → (o ≡ None → LacksFront name text) → (p ≡ None → LacksFront name text) → x ≡ y
 unfolding LacksFront
 option_same name None None text x y e h f g a b = sym e ∙ h
 option_same name None (Some n) text x y e h f g a b = absurd (a refl (decimal n ++ 32 ∷ y) h)
@@ -147,13 +147,13 @@ target_alone p text more are e lacks = by p.proto refl
 pub record HasProto (p : Ports) (rest more : List ℕ) : Type 0 where
   pub proto : ℕ
   pub is : p.proto ≡ Some proto
-  pub small : IsByte proto
+  pub small : HasOneByte proto
   pub rest_is : rest ≡ proto_text proto ++ 32 ∷ from_sport p more
 
 pub has_proto : (p : Ports) (text rest more : List ℕ) → ArePorts p → text ≡ ports_then p more → text ≡ codes "-p " ++ rest → HasProto p rest more
 has_proto p text rest more are e h = by p.proto refl are.proto
   where
-    by : (o : Option ℕ) → p.proto ≡ o → IsOptional IsByte p.proto → HasProto p rest more
+    by : (o : Option ℕ) → p.proto ≡ o → IsOptional HasOneByte p.proto → HasProto p rest more
     by None k small = absurd (no_target (e ∙ ap (λ o. option_then (codes "-p ") proto_text o (from_sport p more)) k))
       where
         no_target : text ≡ from_sport p more → ⊥
@@ -166,12 +166,12 @@ has_proto p text rest more are e h = by p.proto refl are.proto
     by (Some n) k small = record {
       proto = n;
       is = k;
-      small = subst (IsOptional IsByte) k small;
+      small = subst (IsOptional HasOneByte) k small;
       rest_is = append_cancel_left (codes "-p ") rest (proto_text n ++ 32 ∷ from_sport p more) (sym h ∙ e ∙ ap (λ o. option_then (codes "-p ") proto_text o (from_sport p more)) k);
     }
 
 -- and what stands behind a protocol that was read
-pub behind_proto : (p : Ports) (text rest more read : List ℕ) (n : ℕ) → ArePorts p → text ≡ ports_then p more → text ≡ codes "-p " ++ rest → rest ≡ proto_text n ++ 32 ∷ read → IsByte n → (p.proto ≡ Some n) × (read ≡ from_sport p more)
+pub behind_proto : (p : Ports) (text rest more read : List ℕ) (n : ℕ) → ArePorts p → text ≡ ports_then p more → text ≡ codes "-p " ++ rest → rest ≡ proto_text n ++ 32 ∷ read → HasOneByte n → (p.proto ≡ Some n) × (read ≡ from_sport p more)
 behind_proto p text rest more read n are e h f small =
     let has = has_proto p text rest more are e h in
     let cut = cut_once 32 (proto_text n) (proto_text has.proto) read (from_sport p more) (proto_free 32 n (omega arith) small) (proto_free 32 has.proto (omega arith) has.small) (sym f ∙ has.rest_is) in
@@ -187,27 +187,27 @@ no_ports p n more are is f g = plain_target p more (by are.ports)
     by (inr (inr h)) = absurd (g (same_number n 17 (sym is ∙ h)))
 
 -- a wrong number behind an option
-pub wrong_port : (name text rest more : List ℕ) (o : Option ℕ) → text ≡ option_then name decimal o more → text ≡ name ++ rest → IsOptional IsDouble o → (o ≡ None → LacksFront name more) → ((n : ℕ) (z : List ℕ) → IsDouble n → text ≡ name ++ (decimal n ++ 32 ∷ z) → ⊥) → ⊥
+pub wrong_port : (name text rest more : List ℕ) (o : Option ℕ) → text ≡ option_then name decimal o more → text ≡ name ++ rest → IsOptional HasTwoBytes o → (o ≡ None → LacksFront name more) → ((n : ℕ) (z : List ℕ) → HasTwoBytes n → text ≡ name ++ (decimal n ++ 32 ∷ z) → ⊥) → ⊥
 unfolding LacksFront
 wrong_port name text rest more None e h is lacks none = lacks refl rest (sym e ∙ h)
 wrong_port name text rest more (Some n) e h is lacks none = none n more is e
 
-pub behind_sport : (p : Ports) (text read more : List ℕ) (o : Option ℕ) → ArePorts p → text ≡ from_sport p more → text ≡ option_then (codes "--sport ") decimal o read → IsOptional IsDouble o → (o ≡ None → (rest : List ℕ) → text ≡ codes "--sport " ++ rest → ⊥) → read ≡ from_dport p more
+pub behind_sport : (p : Ports) (text read more : List ℕ) (o : Option ℕ) → ArePorts p → text ≡ from_sport p more → text ≡ option_then (codes "--sport ") decimal o read → IsOptional HasTwoBytes o → (o ≡ None → (rest : List ℕ) → text ≡ codes "--sport " ++ rest → ⊥) → read ≡ from_dport p more
 unfolding LacksFront
 behind_sport p text read more o are e h is plain =
     option_same (codes "--sport ") o p.sport text read (from_dport p more) h e is are.sport plain
     (λ none rest k. dport_lacks p.dport more rest (sym (ap (λ s. option_then (codes "--sport ") decimal s (from_dport p more)) none) ∙ sym e ∙ k))
 
-pub behind_dport : (p : Ports) (text read more : List ℕ) (o : Option ℕ) → ArePorts p → text ≡ from_dport p more → text ≡ option_then (codes "--dport ") decimal o read → IsOptional IsDouble o → (o ≡ None → (rest : List ℕ) → text ≡ codes "--dport " ++ rest → ⊥) → read ≡ codes "-j " ++ more
+pub behind_dport : (p : Ports) (text read more : List ℕ) (o : Option ℕ) → ArePorts p → text ≡ from_dport p more → text ≡ option_then (codes "--dport ") decimal o read → IsOptional HasTwoBytes o → (o ≡ None → (rest : List ℕ) → text ≡ codes "--dport " ++ rest → ⊥) → read ≡ codes "-j " ++ more
 unfolding LacksFront
 behind_dport p text read more o are e h is plain =
     option_same (codes "--dport ") o p.dport text read (codes "-j " ++ more) h e is are.dport plain
     (λ none rest k. target_lacks more rest (sym (ap (λ d. option_then (codes "--dport ") decimal d (codes "-j " ++ more)) none) ∙ sym e ∙ k))
 
-pub wrong_sport : (p : Ports) (text rest more : List ℕ) → ArePorts p → text ≡ from_sport p more → text ≡ codes "--sport " ++ rest → ((n : ℕ) (z : List ℕ) → IsDouble n → text ≡ codes "--sport " ++ (decimal n ++ 32 ∷ z) → ⊥) → ⊥
+pub wrong_sport : (p : Ports) (text rest more : List ℕ) → ArePorts p → text ≡ from_sport p more → text ≡ codes "--sport " ++ rest → ((n : ℕ) (z : List ℕ) → HasTwoBytes n → text ≡ codes "--sport " ++ (decimal n ++ 32 ∷ z) → ⊥) → ⊥
 wrong_sport p text rest more are e h none = wrong_port (codes "--sport ") text rest (from_dport p more) p.sport e h are.sport (λ k. dport_lacks p.dport more) none
 
-pub wrong_dport : (p : Ports) (text rest more : List ℕ) → ArePorts p → text ≡ from_dport p more → text ≡ codes "--dport " ++ rest → ((n : ℕ) (z : List ℕ) → IsDouble n → text ≡ codes "--dport " ++ (decimal n ++ 32 ∷ z) → ⊥) → ⊥
+pub wrong_dport : (p : Ports) (text rest more : List ℕ) → ArePorts p → text ≡ from_dport p more → text ≡ codes "--dport " ++ rest → ((n : ℕ) (z : List ℕ) → HasTwoBytes n → text ≡ codes "--dport " ++ (decimal n ++ 32 ∷ z) → ⊥) → ⊥
 wrong_dport p text rest more are e h none = wrong_port (codes "--dport ") text rest (codes "-j " ++ more) p.dport e h are.dport (λ k. target_lacks more) none
 
 -- ports that one text has twice leave the same behind them
@@ -215,14 +215,14 @@ pub ports_once : (p q : Ports) (text x y : List ℕ) → ArePorts p → ArePorts
 unfolding LacksFront
 ports_once p q text x y f g e h = by p.proto refl f.proto
   where
-    by : (o : Option ℕ) → p.proto ≡ o → IsOptional IsByte p.proto → x ≡ y
+    by : (o : Option ℕ) → p.proto ≡ o → IsOptional HasOneByte p.proto → x ≡ y
     by None k small =
         let a = alone p text x f e k in
         let b = target_alone q text y g h (λ rest z. (let bad = seconds 45 106 45 112 _ _ (sym a ∙ z) in omega arith)) in
         append_cancel_left (codes "-j ") x y (sym a ∙ b)
     by (Some n) k small =
         let whole : text ≡ codes "-p " ++ (proto_text n ++ 32 ∷ from_sport p x) = e ∙ ap (λ o. option_then (codes "-p ") proto_text o (from_sport p x)) k in
-        let sports = (behind_proto q text _ y (from_sport p x) n g h whole refl (subst (IsOptional IsByte) k small)).1 in
+        let sports = (behind_proto q text _ y (from_sport p x) n g h whole refl (subst (IsOptional HasOneByte) k small)).1 in
         let dports = behind_sport q (from_sport p x) (from_dport p x) y p.sport g sports refl f.sport (λ none rest z. dport_front p none rest z) in
         let targets = behind_dport q (from_dport p x) (codes "-j " ++ x) y p.dport g dports refl f.dport (λ none rest z. target_front p none rest z) in
         append_cancel_left (codes "-j ") x y targets

@@ -8,7 +8,7 @@ use Rattle.merlin_model.specs.declared.config.Rule.{Rule}
 use Rattle.merlin_model.specs.Networks.{Network}
 use Rattle.config_text.specs.Lines.{name_at, match_text, actions_text}
 use Rattle.config_lines.specs.Words.{IsLocation}
-use Rattle.config_lines.specs.Parts.{IsDouble, IsLineMatch, AreLineActions}
+use Rattle.config_lines.specs.Parts.{HasTwoBytes, IsLineMatch, AreLineActions}
 use Rattle.config_lines.specs.Lines.{rule_line, IsRuleLine}
 use Rattle.config_lines.proofs.Then.{behind_word, behind_part, location_free, double_free}
 use Rattle.config_lines.proofs.MatchTexts.{match_free}
@@ -35,7 +35,7 @@ start net text r rule more e h = behind_word (codes "rule ") text r _ e (h ∙ p
 pub after_loc : (net : Network) (text rest : List ℕ) (loc : ℕ) (rule : Rule) (more : List ℕ) → text ≡ name_at net loc ++ 32 ∷ rest → IsLocation net loc → IsRuleLine net rule → text ≡ from_loc net rule more → rest ≡ from_priority net rule more
 after_loc net text rest loc rule more e f is h = behind_part 32 text (name_at net loc) rest (name_at net rule.loc) _ e (location_free 32 net loc (omega arith) f) (location_free 32 net rule.loc (omega arith) is.loc) h
 
-pub after_priority : (net : Network) (text rest : List ℕ) (priority : ℕ) (rule : Rule) (more : List ℕ) → text ≡ decimal priority ++ 32 ∷ rest → IsDouble priority → IsRuleLine net rule → text ≡ from_priority net rule more → rest ≡ from_fits net rule more
+pub after_priority : (net : Network) (text rest : List ℕ) (priority : ℕ) (rule : Rule) (more : List ℕ) → text ≡ decimal priority ++ 32 ∷ rest → HasTwoBytes priority → IsRuleLine net rule → text ≡ from_priority net rule more → rest ≡ from_fits net rule more
 after_priority net text rest priority rule more e f is h = behind_part 32 text (decimal priority) rest (decimal rule.priority) _ e (double_free 32 priority (omega arith) f) (double_free 32 rule.priority (omega arith) is.priority) h
 
 pub after_fits : (net : Network) (text rest : List ℕ) (fits : Match) (rule : Rule) (more : List ℕ) → text ≡ match_text fits ++ 32 ∷ rest → IsLineMatch fits → IsRuleLine net rule → text ≡ from_fits net rule more → rest ≡ from_actions net rule more

@@ -13,7 +13,7 @@ use Rattle.merlin_base.proofs.Cutting.{Free, free, free_middle, AreSame, cut_onc
 use Rattle.merlin_base.proofs.Decimals.{decimal_free, is_decimal}
 use Rattle.config_text.specs.Lines.{name_at, function_name, rate_with_unit}
 use Rattle.config_lines.specs.Words.{IsLimited, HasFewDigits, IsLocation, IsLineFunction}
-use Rattle.config_lines.specs.Parts.{IsDouble}
+use Rattle.config_lines.specs.Parts.{HasTwoBytes}
 
 -- a text without the byte has no such part
 pub no_byte : (byte : ℕ) (text part rest : List ℕ) → Lacks byte text → text ≡ part ++ byte ∷ rest → ⊥
@@ -99,8 +99,8 @@ unlike xs ys r e f h = true_false (sym ((bytes_eq-Decides xs ys).1 h) ∙ sym e 
 pub alike : (xs ys : List ℕ) (r : Bool) → r ≡ bytes_eq xs ys → r ≡ true → xs ≡ ys
 alike xs ys r e t = (bytes_eq-Decides xs ys).0 (sym e ∙ t)
 
-pub double_free : (byte n : ℕ) → byte < 48 → IsDouble n → Free byte (decimal n)
+pub double_free : (byte n : ℕ) → byte < 48 → HasTwoBytes n → Free byte (decimal n)
 double_free byte n low is = decimal_free byte n (omega arith) low
 
-pub within_double : (n : ℕ) → IsDouble n → IsLimited 0 65535 n
+pub within_double : (n : ℕ) → HasTwoBytes n → IsLimited 0 65535 n
 within_double n is = record { low = omega arith; high = is }

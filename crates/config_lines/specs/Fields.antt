@@ -9,7 +9,7 @@ use Rattle.config_lines.specs.declared.fields.Key.{Key}
 use Rattle.config_lines.specs.declared.fields.Key.TheVariants.{InPort, DlSrc, DlDst, DlVlan, DlType, NwProto, NwSrc, NwDst, TpSrc, TpDst}
 use Rattle.config_lines.specs.declared.limits.TheConstants.{MAX_TAG}
 use Rattle.config_lines.specs.Words.{IsLimited, IsPortNumber}
-use Rattle.config_lines.specs.Parts.{IsMacNumber, IsIpNumber, IsByte, IsDouble}
+use Rattle.config_lines.specs.Parts.{IsMacNumber, IsIpNumber, HasOneByte, HasTwoBytes}
 
 abbrev pub key_word : Key → List ℕ
 key_word InPort = codes "in_port"
@@ -57,11 +57,11 @@ IsValue DlSrc n = IsMacNumber n
 IsValue DlDst n = IsMacNumber n
 IsValue DlVlan n = IsLimited 0 MAX_TAG n
 IsValue DlType n = n ≡ 0
-IsValue NwProto n = IsByte n
+IsValue NwProto n = HasOneByte n
 IsValue NwSrc n = IsIpNumber n
 IsValue NwDst n = IsIpNumber n
-IsValue TpSrc n = IsDouble n
-IsValue TpDst n = IsDouble n
+IsValue TpSrc n = HasTwoBytes n
+IsValue TpDst n = HasTwoBytes n
 
 -- a key and its number
 abbrev pub field_text : Key → ℕ → List ℕ

@@ -8,7 +8,7 @@ use Rattle.merlin_base.specs.Addresses.{ip_text}
 use Rattle.config_text.specs.Lines.{proto_text, rate_with_unit}
 use Rattle.config_lines.specs.declared.hosts.Ports.{Ports}
 use Rattle.config_lines.specs.Words.{HasFewDigits, IsOptional}
-use Rattle.config_lines.specs.Parts.{IsByte, IsDouble, MayNamePorts}
+use Rattle.config_lines.specs.Parts.{HasOneByte, HasTwoBytes, MayNamePorts}
 use Rattle.config_lines.specs.Lines.{IsClass}
 
 -- a hexadecimal digit, in lower case
@@ -27,9 +27,9 @@ ports_then p more =
     (option_then (codes "--sport ") decimal p.sport (option_then (codes "--dport ") decimal p.dport (codes "-j " ++ more)))
 
 pub record ArePorts (p : Ports) : Type 0 where
-  pub proto : IsOptional IsByte p.proto
-  pub sport : IsOptional IsDouble p.sport
-  pub dport : IsOptional IsDouble p.dport
+  pub proto : IsOptional HasOneByte p.proto
+  pub sport : IsOptional HasTwoBytes p.sport
+  pub dport : IsOptional HasTwoBytes p.dport
   pub ports : (p.sport ≡ None) × (p.dport ≡ None) ⊎ MayNamePorts p.proto
 
 abbrev pub ports_of : HostMatch → Ports

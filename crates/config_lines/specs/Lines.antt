@@ -16,14 +16,14 @@ use Rattle.config_text.specs.Loads.{load_text}
 use Rattle.config_text.specs.Result.{walk_text}
 use Rattle.config_lines.specs.declared.limits.TheConstants.{MAX_QUEUE}
 use Rattle.config_lines.specs.Words.{IsLimited, IsPortNumber, IsTag, IsQueue, HasFewDigits, IsLocation, IsLineFunction}
-use Rattle.config_lines.specs.Parts.{IsMacNumber, IsDouble, IsLineMatch, AreLineActions, IsHostMatch, IsLineSymbol}
+use Rattle.config_lines.specs.Parts.{IsMacNumber, HasTwoBytes, IsLineMatch, AreLineActions, IsHostMatch, IsLineSymbol}
 
 abbrev pub rule_line : Network → Rule → List ℕ
 rule_line net r = line (rule_text (name_at net r.loc) r)
 
 pub record IsRuleLine (net : Network) (r : Rule) : Type 0 where
   pub loc : IsLocation net r.loc
-  pub priority : IsDouble r.priority
+  pub priority : HasTwoBytes r.priority
   pub fits : IsLineMatch r.fits
   pub actions : AreLineActions r.actions
 

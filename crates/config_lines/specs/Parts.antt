@@ -18,11 +18,11 @@ IsMacNumber n = n < 2 ^ 48
 abbrev pub IsIpNumber : ℕ → Type 0
 IsIpNumber n = n < 2 ^ 32
 
-abbrev pub IsByte : ℕ → Type 0
-IsByte n = n ≤ 255
+abbrev pub HasOneByte : ℕ → Type 0
+HasOneByte n = n ≤ 255
 
-abbrev pub IsDouble : ℕ → Type 0
-IsDouble n = n ≤ 65535
+abbrev pub HasTwoBytes : ℕ → Type 0
+HasTwoBytes n = n ≤ 65535
 
 abbrev pub IsLineVlan : Vlan → Type 0
 IsLineVlan Untagged = Unit {0}
@@ -34,11 +34,11 @@ pub record IsLineMatch (m : Match) : Type 0 where
   pub dl_src : IsOptional IsMacNumber m.dl_src
   pub dl_dst : IsOptional IsMacNumber m.dl_dst
   pub dl_vlan : IsOptional IsLineVlan m.dl_vlan
-  pub nw_proto : IsOptional IsByte m.nw_proto
+  pub nw_proto : IsOptional HasOneByte m.nw_proto
   pub nw_src : IsOptional IsIpNumber m.nw_src
   pub nw_dst : IsOptional IsIpNumber m.nw_dst
-  pub tp_src : IsOptional IsDouble m.tp_src
-  pub tp_dst : IsOptional IsDouble m.tp_dst
+  pub tp_src : IsOptional HasTwoBytes m.tp_src
+  pub tp_dst : IsOptional HasTwoBytes m.tp_dst
 
 abbrev pub IsLineOut : Out → Type 0
 IsLineOut InPort = Unit {0}
@@ -72,9 +72,9 @@ MayNamePorts proto = (proto ≡ Some 6) ⊎ (proto ≡ Some 17)
 pub record IsHostMatch (m : HostMatch) : Type 0 where
   pub src : IsIpNumber m.src
   pub dst : IsIpNumber m.dst
-  pub proto : IsOptional IsByte m.proto
-  pub sport : IsOptional IsDouble m.sport
-  pub dport : IsOptional IsDouble m.dport
+  pub proto : IsOptional HasOneByte m.proto
+  pub sport : IsOptional HasTwoBytes m.sport
+  pub dport : IsOptional HasTwoBytes m.dport
   pub ports : (m.sport ≡ None) × (m.dport ≡ None) ⊎ MayNamePorts m.proto
 
 -- a location, and any function, wherever that is placed

@@ -25,7 +25,8 @@ pub enum Course {
 // The port that the word names.
 fn read_out(word: &[u8]) -> Option<Out>
     ensures some { IfSome result (λ out. (word.now ≡ out_text out) × IsLineOut out) }
-    ensures none { IfNone result ((out : Port) → IsLineOut out → word.now ≡ out_text out → ⊥) }
+    ensures none { IfNone result ((out : Port) → IsLineOut out →
+        word.now ≡ out_text out → ⊥) }
 {
     if word == b"in_port".as_slice() {
         return Some(Out::InPort);
@@ -117,7 +118,8 @@ fn read_course(word: &[u8]) -> Option<Course>
 pub(crate) fn course_then(text: &[u8]) -> Option<(Course, &[u8])>
     ensures some { IfSome result (λ r. (text.now ≡ actions_text (actions_of r.0) ++ 10 ∷ r.1.now)
         × AreLineActions (actions_of r.0)) }
-    ensures none { IfNone result ((actions : List Stated) (rest : List ℕ) → AreLineActions actions →
+    ensures none { IfNone result ((actions : List Stated) (rest : List ℕ) →
+        AreLineActions actions →
         text.now ≡ actions_text actions ++ 10 ∷ rest → ⊥) }
 {
     let (word, rest) = split_at_byte(text, b'\n')?;

@@ -22,7 +22,8 @@ fn digit_of(byte: u8) -> Option<u16>
 // The number that a first digit is.
 fn first_digit(byte: u8) -> Option<u16>
     ensures some { IfSome result (λ n. (byte ∷ [] ≡ digits 16 false n) × IsLimited 1 15 n) }
-    ensures none { IfNone result ((v : ℕ) → 0 < v → v < 16 → byte ≡ digit_glyph false v → ⊥) }
+    ensures none { IfNone result ((v : ℕ) → 0 < v → v < 16 →
+        byte ≡ digit_glyph false v → ⊥) }
 {
     let digit = digit_of(byte)?;
     if digit == 0 { None } else { Some(digit) }

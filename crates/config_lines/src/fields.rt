@@ -103,7 +103,8 @@ fn read_vlan(word: &[u8]) -> Option<u64>
 // The number within a range that the word is, among the numbers of all fields.
 fn read_up_to(word: &[u8], least: u16, most: u16) -> Option<u64>
     ensures some { IfSome result (λ n. (word.now ≡ decimal n) × IsLimited least most n) }
-    ensures none { IfNone result ((n : ℕ) → IsLimited least most n → word.now ≡ decimal n → ⊥) }
+    ensures none { IfNone result ((n : ℕ) → IsLimited least most n →
+        word.now ≡ decimal n → ⊥) }
 {
     let number = read_short(word, least, most)?;
     Some(u64::from(number))
@@ -133,7 +134,8 @@ fn read_type(word: &[u8]) -> Option<u64>
 // The number of this field that the word is.
 fn read_value(key: Key, word: &[u8]) -> Option<u64>
     ensures some { IfSome result (λ n. (word.now ≡ value_text key n) × IsValue key n) }
-    ensures none { IfNone result ((n : ℕ) → IsValue key n → word.now ≡ value_text key n → ⊥) }
+    ensures none { IfNone result ((n : ℕ) → IsValue key n →
+        word.now ≡ value_text key n → ⊥) }
 {
     match key {
         Key::InPort => read_up_to(word, 1, GREATEST_PORT),
@@ -195,7 +197,8 @@ fn read_field(part: &[u8]) -> Option<(Key, u64)>
 // The match that the word is: `any`, or fields joined by commas.
 fn read_match(word: &[u8]) -> Option<Match>
     ensures some { IfSome result (λ m. (word.now ≡ match_text m) × IsLineMatch m) }
-    ensures none { IfNone result ((m : Stated) → IsLineMatch m → word.now ≡ match_text m → ⊥) }
+    ensures none { IfNone result ((m : Stated) → IsLineMatch m →
+        word.now ≡ match_text m → ⊥) }
 {
     if word == b"any".as_slice() {
         return Some(ANY);

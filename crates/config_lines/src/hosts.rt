@@ -7,7 +7,7 @@ ghost use Rattle.merlin_model.specs.declared.config.HostLine.{HostLine as Stated
 ghost use Rattle.config_text.specs.Lines.{proto_text, host_of};
 ghost use Rattle.config_lines.specs.declared.hosts.Ports.{Ports as Named};
 ghost use Rattle.config_lines.specs.Words.{IsOptional};
-ghost use Rattle.config_lines.specs.Parts.{IsByte, IsDouble, IsHostMatch};
+ghost use Rattle.config_lines.specs.Parts.{HasOneByte, HasTwoBytes, IsHostMatch};
 ghost use Rattle.config_lines.specs.Lines.{IsClass, AreHostNumbers, host_line, IsHostLine};
 ghost use Rattle.config_lines.specs.Hosts.{option_then, ports_then, ArePorts, match_then, AreRates, class_then, target_then, verdict_then, postrouting, host_then};
 
@@ -28,8 +28,8 @@ pub struct Ports {
 
 // The protocol that the word names.
 fn read_proto(word: &[u8]) -> Option<u8>
-    ensures some { IfSome result (λ n. (word.now ≡ proto_text n) × IsByte n) }
-    ensures none { IfNone result ((n : ℕ) → IsByte n → word.now ≡ proto_text n → ⊥) }
+    ensures some { IfSome result (λ n. (word.now ≡ proto_text n) × HasOneByte n) }
+    ensures none { IfNone result ((n : ℕ) → HasOneByte n → word.now ≡ proto_text n → ⊥) }
 {
     if word == b"tcp".as_slice() {
         return Some(6);
@@ -50,8 +50,8 @@ fn read_proto(word: &[u8]) -> Option<u8>
 // The protocol before the first blank, and what stands behind that.
 fn proto_then(text: &[u8]) -> Option<(u8, &[u8])>
     ensures some { IfSome result (λ r.
-        (text.now ≡ proto_text r.0 ++ 32 ∷ r.1.now) × IsByte r.0) }
-    ensures none { IfNone result ((n : ℕ) (rest : List ℕ) → IsByte n →
+        (text.now ≡ proto_text r.0 ++ 32 ∷ r.1.now) × HasOneByte r.0) }
+    ensures none { IfNone result ((n : ℕ) (rest : List ℕ) → HasOneByte n →
         text.now ≡ proto_text n ++ 32 ∷ rest → ⊥) }
 {
     let (word, rest) = split_at_byte(text, b' ')?;
@@ -70,11 +70,11 @@ fn has_ports(proto: u8) -> bool
 // The port behind this option, if the text begins with the option, and what stands behind the two.
 fn port_then<'a>(text: &'a [u8], name: &[u8]) -> Option<(Option<u16>, &'a [u8])>
     ensures some { IfSome result (λ r. (text.now ≡ option_then name.now decimal r.0 r.1.now)
-        × IsOptional IsDouble r.0) }
+        × IsOptional HasTwoBytes r.0) }
     ensures plain { IfSome result (λ r. r.0 ≡ None → (rest : List ℕ) →
         text.now ≡ name.now ++ rest → ⊥) }
     ensures begins { IfNone result ((rest : List ℕ) × (text.now ≡ name.now ++ rest)) }
-    ensures none { IfNone result ((n : ℕ) (rest : List ℕ) → IsDouble n →
+    ensures none { IfNone result ((n : ℕ) (rest : List ℕ) → HasTwoBytes n →
         text.now ≡ name.now ++ (decimal n ++ 32 ∷ rest) → ⊥) }
 {
     let Some(rest) = strip_front(text, name) else {
@@ -164,7 +164,8 @@ fn read_rates(text: &[u8]) -> Option<((u16, u64, u64), &[u8])>
 fn read_target(text: &[u8]) -> Option<(Option<u16>, &[u8])>
     ensures some { IfSome result (λ r. (text.now ≡ target_then r.0 r.1.now)
         × IsOptional IsClass r.0) }
-    ensures none { IfNone result ((class : Option ℕ) (rest : List ℕ) → IsOptional IsClass class →
+    ensures none { IfNone result ((class : Option ℕ) (rest : List ℕ) →
+        IsOptional IsClass class →
         text.now ≡ target_then class rest → ⊥) }
 {
     if let Some(rest) = strip_front(text, b"RETURN\n") {

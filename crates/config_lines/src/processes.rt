@@ -95,7 +95,8 @@ fn read_frame<'a>(net: &Topology, text: &'a [u8]) -> Option<(Frame<'a>, &'a [u8]
     ensures some { IfSome result (λ r. (text.now ≡ frame_text net.now r.0 r.1.now)
         × IsFrame net.now r.0) }
     ensures none { IfNone result ((process : Stated) (rest : List ℕ) →
-        IsProcessLine net.now process → text.now ≡ process_line net.now process ++ rest → ⊥) }
+        IsProcessLine net.now process →
+        text.now ≡ process_line net.now process ++ rest → ⊥) }
 {
     let rest = strip_front(text, b"process ")?;
     let (loc, rest) = location_then(net, rest)?;
@@ -126,7 +127,8 @@ pub fn read_process<'a>(
     ensures some { IfOk result (λ o. IfSome o (λ r.
         (text.now ≡ process_line net.now r.0 ++ r.1.now) × IsProcessLine net.now r.0)) }
     ensures none { IfOk result (λ o. IfNone o ((process : Stated) (rest : List ℕ) →
-        IsProcessLine net.now process → text.now ≡ process_line net.now process ++ rest → ⊥)) }
+        IsProcessLine net.now process →
+        text.now ≡ process_line net.now process ++ rest → ⊥)) }
 {
     let Some((frame, rest)) = read_frame(net, text) else {
         return Ok(None);

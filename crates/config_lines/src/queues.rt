@@ -14,7 +14,8 @@ use topology::Topology;
 pub fn read_queue<'a>(net: &Topology, text: &'a [u8]) -> Option<(Queue, &'a [u8])>
     ensures some { IfSome result (λ r.
         (text.now ≡ queue_line net.now r.0 ++ r.1.now) × IsQueueLine net.now r.0) }
-    ensures none { IfNone result ((queue : Stated) (rest : List ℕ) → IsQueueLine net.now queue →
+    ensures none { IfNone result ((queue : Stated) (rest : List ℕ) →
+        IsQueueLine net.now queue →
         text.now ≡ queue_line net.now queue ++ rest → ⊥) }
 {
     let rest = strip_front(text, b"queue ")?;

@@ -16,7 +16,8 @@ pub(crate) const GREATEST_PORT: u16 = MAX_PORT as u16;
 /// The number within a range that the word is.
 pub(crate) fn read_short(word: &[u8], least: u16, most: u16) -> Option<u16>
     ensures some { IfSome result (λ n. (word.now ≡ decimal n) × IsLimited least most n) }
-    ensures none { IfNone result ((n : ℕ) → IsLimited least most n → word.now ≡ decimal n → ⊥) }
+    ensures none { IfNone result ((n : ℕ) → IsLimited least most n →
+        word.now ≡ decimal n → ⊥) }
 {
     let number = read_number(word)?;
     if number < usize::from(least) {

@@ -34,7 +34,8 @@ pub fn read_first_line(text: &[u8]) -> Option<((u8, bool), &[u8])>
 // The objective that the word names.
 fn objective_of(word: &[u8]) -> Option<Objective>
     ensures some { IfSome result (λ objective. word.now ≡ objective_word objective) }
-    ensures none { IfNone result ((objective : Stated) → word.now ≡ objective_word objective → ⊥) }
+    ensures none { IfNone result ((objective : Stated) →
+        word.now ≡ objective_word objective → ⊥) }
 {
     if word == b"shortest".as_slice() {
         return Some(Objective::Shortest);
@@ -65,7 +66,8 @@ pub fn objective_then(text: &[u8], byte: u8) -> Option<(Objective, &[u8])>
 // Whether the word is a number of few digits.
 fn is_short(word: &[u8]) -> bool
     ensures yes { result ≡ true → (n : ℕ) × HasFewDigits n × (word.now ≡ decimal n) }
-    ensures no { result ≡ false → (n : ℕ) → HasFewDigits n → word.now ≡ decimal n → ⊥ }
+    ensures no { result ≡ false → (n : ℕ) → HasFewDigits n →
+        word.now ≡ decimal n → ⊥ }
 {
     read_number(word).is_some()
 }

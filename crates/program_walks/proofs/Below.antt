@@ -37,7 +37,7 @@ use Rattle.cutoff_program.proofs.Loads.{CrossAlike, value-same, feasible-fits}
 use Rattle.cutoff_program.proofs.Bridge.{trail-at}
 use Rattle.program_walks.specs.Loads.{load_on_link, cost_on_link, ratio_on_link, value_as}
 use Rattle.program_walks.specs.Bounds.{link_crossed, share_on_link, share_of_variable, share_by_number, greatest_share, IsLeastShare, IsLeastCost, IsBoundBy, IsBoundOver, HasFlowWithoutTrail, IsSeparateBound}
-use Rattle.program_walks.proofs.Ratios.{IsAtMost, most-from, most-to, most-through, greatest-has, greatest-within, greatest-bounds}
+use Rattle.program_walks.proofs.Ratios.{IsAtMost, most-from, most-to, most-through, none-most, greatest-has, greatest-within, greatest-bounds}
 use Rattle.program_walks.proofs.Widening.{fits-crossed, fits-true, may-at, share-at}
 use Rattle.program_walks.proofs.Narrowing.{shares-positive}
 use Rattle.program_walks.proofs.Adding.{nothing-loaded, nothing-cost}
@@ -85,9 +85,6 @@ most-of (r ∷ rs) = (first r.0 (greatest_of (map (λ l. l.0) rs)), up rs (most-
     up : (xs : List (ℕ × ℕ)) → AllByRecursion (λ x. x.0 ≤ greatest_of (map (λ l. l.0) rs)) xs → AllByRecursion (λ x. x.0 ≤ max r.0 (greatest_of (map (λ l. l.0) rs))) xs
     up [] all = tt
     up (x ∷ xs) all = (second r.0 (greatest_of (map (λ l. l.0) rs)) x.0 all.0, up xs all.1)
-
-none-most : (b : ℕ × ℕ) → IsAtMost (0, 1) b
-none-most b = let z : 0 * b.1 ≡ 0 = omega arith in let w : 0 * b.1 ≤ b.0 * 1 = omega arith in w
 
 -- The edges of trails, one for each flow.
 

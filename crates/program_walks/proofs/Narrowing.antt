@@ -1,5 +1,5 @@
 -- Looking for the widest trail of a flow.
-use Rattle.std.proofs.Common.{◌≡◌, ℕ, ◌+◌, ◌≤◌, ◌<◌, nat_le, Bool, true, false, List, [], ◌∷◌, map, Option, None, Some, slice_get, refl, sym, ◌∙◌, ap, subst, arith}
+use Rattle.std.proofs.Common.{◌≡◌, ℕ, ◌+◌, ◌*◌, ◌≤◌, ◌<◌, nat_le, Bool, true, false, List, [], ◌∷◌, map, Option, None, Some, slice_get, refl, sym, ◌∙◌, ap, subst, arith}
 use Rattle.std.proofs.lemmas.Bool.{ltb-true, leb-true, leb-false}
 use Rattle.std.specs.List.{AllByRecursion}
 use Rattle.merlin_model.specs.Assignments.{greatest_ratio, ratio_lt}
@@ -114,6 +114,21 @@ module _ (problem : Problem) (is : IsProblem problem) (n : ℕ) (flow : Flow) wh
             wide k v s f may m true x = may-wide problem k v s high may (leb-true high (width_of problem v) x)
             wide k v s f may m false x =
                 absurd (clash (most-through share (share_by_number problem k) (greatest_share problem other) (below k v s f (leb-false high (width_of problem v) x)) m (share-positive problem is k)))
+
+-- The steps of the search.
+
+module _ (problem : Problem) (n : ℕ) (flow : Flow) where
+  pub narrowed-first : (high : ℕ) (found : Option (ℕ × ℕ)) (share : ℕ × ℕ) → IsProblem problem → high ≡ UNCROSSED + 1 → IsShareIf problem n flow 0 found → found ≡ Some share → IsNarrowed problem n flow 0 high share
+  narrowed-first high found share is e h s = record { found = subst (IsShareIf problem n flow 0) s h; none = none-wider problem is n flow high e }
+
+  pub narrowed-low : (low high middle : ℕ) (found : Option (ℕ × ℕ)) (old share : ℕ × ℕ) → IsNarrowed problem n flow low high old → IsShareIf problem n flow middle found → found ≡ Some share → IsNarrowed problem n flow middle high share
+  narrowed-low low high middle found old share t h s = record { found = subst (IsShareIf problem n flow middle) s h; none = t.none }
+
+  pub narrowed-high : (low high middle : ℕ) (found : Option (ℕ × ℕ)) (share : ℕ × ℕ) → IsNarrowed problem n flow low high share → IsShareIf problem n flow middle found → found ≡ None → IsNarrowed problem n flow low middle share
+  narrowed-high low high middle found share t h s = record { found = t.found; none = subst (IsShareIf problem n flow middle) s h }
+
+  pub without-trail : (found : Option (ℕ × ℕ)) → IsProblem problem → IsShareIf problem n flow 0 found → found ≡ None → IsWithoutTrail problem n flow
+  without-trail found is h s = narrow-none problem is n flow (subst (IsShareIf problem n flow 0) s h)
 
 -- What the search for a path finds.
 

@@ -35,6 +35,9 @@ most-through a b c h g p =
     chain : (l m n o p q : ℕ) → l ≡ m → n ≡ o → p ≡ q → m ≤ n → o ≤ q → l ≤ p
     chain l m n o p q x y z u v = omega arith
 
+pub none-most : (b : ℕ × ℕ) → IsAtMost (0, 1) b
+none-most b = let z : 0 * b.1 ≡ 0 = omega arith in let w : 0 * b.1 ≤ b.0 * 1 = omega arith in w
+
 -- what holds of 0/1 and of each holds of the greatest
 pub greatest-has : (P : ℕ × ℕ → Type 0) (rs : List (ℕ × ℕ)) → P (0, 1) → AllByRecursion P rs → P (greatest_ratio rs)
 greatest-has P [] none all = none
@@ -45,7 +48,7 @@ greatest-has P (r ∷ rs) none all = by (ratio_lt r (greatest_ratio rs)) (greate
     by false g = all.0
 
 pub greatest-within : (b : ℕ × ℕ) (rs : List (ℕ × ℕ)) → AllByRecursion (λ r. IsAtMost r b) rs → IsAtMost (greatest_ratio rs) b
-greatest-within b rs all = greatest-has (λ r. IsAtMost r b) rs (let z : 0 * b.1 ≡ 0 = omega arith in let w : 0 * b.1 ≤ b.0 * 1 = omega arith in w) all
+greatest-within b rs all = greatest-has (λ r. IsAtMost r b) rs (none-most b) all
 
 up-to : (rs : List (ℕ × ℕ)) (a b : ℕ × ℕ) → IsAtMost a b → 0 < a.1 → AllByRecursion (λ r. IsAtMost r a) rs → AllByRecursion (λ r. IsAtMost r b) rs
 up-to [] a b h p all = tt

@@ -21,7 +21,7 @@ use Rattle.cutoff_program.proofs.Rooms.{room-none}
 use Rattle.program_walks.specs.declared.crossing.TheConstants.{UNCROSSED}
 use Rattle.program_walks.specs.Bounds.{link_crossed, share_on_link, share_of_variable, share_by_number}
 use Rattle.program_walks.specs.Widths.{has_width, is_so_wide, IsWideAt}
-use Rattle.program_walks.proofs.Ratios.{IsAtMost}
+use Rattle.program_walks.proofs.Ratios.{IsAtMost, none-most}
 
 pub crossed-within : (problem : Problem) → IsProblem problem → (c : Option ℕ) (link : DirectedLink) → link_crossed problem c ≡ Some link → IsLinkWithin link
 crossed-within problem is None link e = absurd (none_some e)
@@ -36,16 +36,14 @@ width_over (Some link) = link.capacity
 abbrev pub width_of : Problem → Variable → ℕ
 width_of problem v = width_over (link_crossed problem v.edge.crosses)
 
-AreWithin : Option DirectedLink → Type 0
+abbrev AreWithin : Option DirectedLink → Type 0
 AreWithin l = (link : DirectedLink) → l ≡ Some link → IsLinkWithin link
 
 over-most : (l : Option DirectedLink) → AreWithin l → width_over l ≤ UNCROSSED
-unfolding AreWithin
 over-most None h = omega arith
 over-most (Some link) h = let s = (h link refl).small in omega (arith, s)
 
 pub width-most : (problem : Problem) (v : Variable) → IsProblem problem → width_of problem v ≤ UNCROSSED
-unfolding AreWithin
 width-most problem v is = over-most (link_crossed problem v.edge.crosses) (crossed-within problem is v.edge.crosses)
 
 has-wide : (width rate : ℕ) (l : Option DirectedLink) → has_width width rate l ≡ true → width ≤ width_over l
@@ -94,7 +92,6 @@ module _ (problem : Problem) (k : ℕ) (v : Variable) (e : slice_get (variables_
 -- Shares.
 
 positive-on : (o : Objective) (rate : ℕ) (l : Option DirectedLink) → AreWithin l → 0 < (share_on_link o rate l).1
-unfolding AreWithin
 positive-on objective.Ratio rate (Some link) h = (h link refl).positive
 positive-on objective.Reserved rate (Some link) h = omega arith
 positive-on objective.Shortest rate (Some link) h = omega arith
@@ -103,7 +100,6 @@ positive-on objective.Reserved rate None h = omega arith
 positive-on objective.Shortest rate None h = omega arith
 
 pub share-positive : (problem : Problem) → IsProblem problem → (k : ℕ) → 0 < (share_by_number problem k).1
-unfolding AreWithin
 share-positive problem is k = by (slice_get (variables_of problem) k)
   where
     by : (o : Option Variable) → 0 < (option_map_or (share_of_variable problem) o (0, 1)).1
@@ -112,7 +108,6 @@ share-positive problem is k = by (slice_get (variables_of problem) k)
 
 -- of two edges with one rate the wider has the lesser share
 wider-on : (o : Objective) (rate : ℕ) (a b : Option DirectedLink) → AreWithin b → width_over a ≤ width_over b → IsAtMost (share_on_link o rate b) (share_on_link o rate a)
-unfolding AreWithin
 wider-on objective.Ratio rate (Some a) (Some b) h g = mul-le-mul_left rate g
 wider-on objective.Reserved rate (Some a) (Some b) h g = plain (rate * 1)
   where
@@ -120,17 +115,16 @@ wider-on objective.Reserved rate (Some a) (Some b) h g = plain (rate * 1)
     plain n = omega arith
 wider-on objective.Ratio rate None (Some b) h g = let s = (h b refl).small in let bad : ⊥ = omega (arith, s, g) in absurd bad
 wider-on objective.Reserved rate None (Some b) h g = let s = (h b refl).small in let bad : ⊥ = omega (arith, s, g) in absurd bad
-wider-on objective.Ratio rate (Some a) None h g = omega arith
-wider-on objective.Reserved rate (Some a) None h g = omega arith
-wider-on objective.Ratio rate None None h g = omega arith
-wider-on objective.Reserved rate None None h g = omega arith
-wider-on objective.Shortest rate (Some a) (Some b) h g = omega arith
-wider-on objective.Shortest rate (Some a) None h g = omega arith
-wider-on objective.Shortest rate None (Some b) h g = omega arith
-wider-on objective.Shortest rate None None h g = omega arith
+wider-on objective.Ratio rate (Some a) None h g = none-most (rate, a.capacity)
+wider-on objective.Reserved rate (Some a) None h g = none-most (rate, 1)
+wider-on objective.Ratio rate None None h g = none-most (0, 1)
+wider-on objective.Reserved rate None None h g = none-most (0, 1)
+wider-on objective.Shortest rate (Some a) (Some b) h g = none-most (0, 1)
+wider-on objective.Shortest rate (Some a) None h g = none-most (0, 1)
+wider-on objective.Shortest rate None (Some b) h g = none-most (0, 1)
+wider-on objective.Shortest rate None None h g = none-most (0, 1)
 
 pub wider-share : (problem : Problem) (v w : Variable) → IsProblem problem → w.rate ≡ v.rate → width_of problem v ≤ width_of problem w → IsAtMost (share_of_variable problem w) (share_of_variable problem v)
-unfolding AreWithin
 wider-share problem v w is same h =
     subst (λ r. IsAtMost (share_on_link problem.objective r (link_crossed problem w.edge.crosses)) (share_of_variable problem v)) (sym same)
     (wider-on problem.objective v.rate (link_crossed problem v.edge.crosses) (link_crossed problem w.edge.crosses) (crossed-within problem is w.edge.crosses) h)

@@ -4,10 +4,10 @@ use Rattle.program_walks.specs.declared.crossing.TheConstants.{UNCROSSED}
 use Rattle.program_walks.proofs.Narrowing.{IsNarrowed}
 use Rattle.program_walks.proofs.widest.least_share.Given as goal
 
-abbrev pub invariant-loop-widths : goal.invariant-loop-widths
-invariant-loop-widths l =
+abbrev pub invariant-widths : goal.invariant-widths
+invariant-widths l =
     (l.low < l.high) × (l.high ≤ UNCROSSED + 1)
     × ((flow : Flow) → slice_get l.problem.flows l.number ≡ Some flow → IsNarrowed l.problem l.number flow l.low l.high l.share)
 
-abbrev pub decreases-loop-widths : goal.decreases-loop-widths
-decreases-loop-widths l = l.high - l.low
+abbrev pub decreases-widths : goal.decreases-widths
+decreases-widths l = l.high - l.low

@@ -14,4 +14,4 @@ pub returns : goal.returns
 returns c = λ (flow : Flow) stands.
     path-share c.args.problem.now c.args.number flow c.args.width c.as_slice.result.now c.in-Some.found c.greatest_along.result (c.as_slice.ensures ∙ c.in_ok-point.ensures)
     (subst (IsLeastPathIf c.args.problem.now c.as_slice.result.now c.args.number flow) c.in-Some.is (c.in_ok-least_path.ensures flow stands))
-    (c.greatest_along.ensures ∙ ap (greatest_share c.args.problem.now) c.as_slice-2.ensures)
+    (c.greatest_along.ensures ∙ ap (greatest_share c.args.problem.now) c.as_slice-in-Some.ensures)

@@ -1,23 +1,22 @@
 -- The bound, flow by flow from the last to the first.
-use Rattle.std.proofs.Common.{◌≡◌, ◌≢◌, ℕ, zero, suc, ◌+◌, ◌-◌, ◌*◌, ◌^◌, ◌≤◌, ◌<◌, Bool, List, [], ◌∷◌, length, drop, sum, map, Option, None, Some, slice_get, get_or, sum_by, refl, sym, ◌∙◌, ap, subst, arith}
+use Rattle.std.proofs.Common.{◌≡◌, ◌≢◌, ℕ, zero, suc, ◌+◌, ◌*◌, ◌^◌, ◌≤◌, ◌<◌, Bool, List, [], ◌∷◌, length, drop, sum, Option, None, Some, slice_get, get_or, sum_by, refl, sym, ap, subst, arith}
 use Rattle.std.proofs.lemmas.List.Sums.{sum_by-cons}
 use Rattle.std.specs.List.{AllByRecursion}
 use Rattle.merlin_model.specs.declared.network.DirectedLink.{DirectedLink}
-use Rattle.merlin_model.specs.declared.policy.Symbol.{Symbol}
 use Rattle.merlin_model.specs.declared.policy.Objective.TheVariants as objective
 use Rattle.merlin_model.specs.declared.policy.Value.{Value}
 use Rattle.merlin_model.specs.declared.policy.Value.TheVariants.{Whole, Ratio}
 use Rattle.merlin_model.specs.Assignments.{greatest_ratio}
-use Rattle.cutoff_program.specs.Flows.{variables_of, last_of, cost_of_variable}
+use Rattle.cutoff_program.specs.Flows.{last_of}
 use Rattle.cutoff_program.specs.declared.flow.Flow.{Flow}
 use Rattle.cutoff_program.specs.declared.flow.Problem.{Problem}
 use Rattle.cutoff_program.specs.Limits.{IsProblem}
-use Rattle.cutoff_program.specs.Easy.{IsTrailThrough, MayAt, EachFlowHas}
+use Rattle.cutoff_program.specs.Easy.{IsTrailThrough, EachFlowHas}
 use Rattle.cutoff_program.proofs.Lists.{all_any}
 use Rattle.program_walks.specs.declared.paths.LeastPath.{LeastPath}
-use Rattle.program_walks.specs.Paths.{IsChosenIn, IsLeastPath, IsLeastPathIf}
+use Rattle.program_walks.specs.Paths.{IsChosenIn, IsLeastPath}
 use Rattle.program_walks.specs.Loads.{load_by, load_on_link, cost_on_link, AreSmallLoads, value_by_walks}
-use Rattle.program_walks.specs.Bounds.{IsLeastShare, IsLeastCost, IsSumOfCosts, IsGreatestOfShares, IsWithoutTrail, HasFlowWithoutTrail, IsBoundOver, IsBoundBy, IsSeparateBound}
+use Rattle.program_walks.specs.Bounds.{IsLeastShare, IsLeastCost, IsSumOfCosts, IsGreatestOfShares, IsWithoutTrail, HasFlowWithoutTrail, IsBoundOver, IsBoundAs, IsSeparateBound}
 use Rattle.program_walks.specs.Widths.{wide_point, IsGreatestIf, IsBoundIf}
 use Rattle.program_walks.proofs.Leasts.{cost-small}
 use Rattle.program_walks.proofs.Turning.{get-some}
@@ -141,11 +140,11 @@ share-more problem place number greatest more share e h s l is = record {
 pub all-shares : (problem : Problem) (number : ℕ) (greatest : ℕ × ℕ) → number ≡ 0 → IsGreatestFrom problem number greatest → IsGreatestOfShares problem greatest
 all-shares problem number greatest e s = (s.shares, subst (λ n. EachFlowHas (IsLeastShare problem) n (drop n problem.flows) s.shares) e s.are, s.is)
 
-pub ratio-by : (problem : Problem) (found : Option (ℕ × ℕ)) (load capacity : ℕ) → IsGreatestIf problem found → found ≡ Some (load, capacity) → problem.objective ≡ objective.Ratio → IsBoundBy problem.objective problem (Ratio load capacity)
-ratio-by problem found load capacity g e o = subst (λ x. IsBoundBy x problem (Ratio load capacity)) (sym o) ((load, capacity), subst (IsGreatestIf problem) e g, refl)
+pub ratio-by : (problem : Problem) (found : Option (ℕ × ℕ)) (load capacity : ℕ) → IsGreatestIf problem found → found ≡ Some (load, capacity) → problem.objective ≡ objective.Ratio → IsBoundAs problem.objective problem (Ratio load capacity)
+ratio-by problem found load capacity g e o = subst (λ x. IsBoundAs x problem (Ratio load capacity)) (sym o) ((load, capacity), subst (IsGreatestIf problem) e g, refl)
 
-pub reserved-by : (problem : Problem) (found : Option (ℕ × ℕ)) (load below : ℕ) → IsGreatestIf problem found → found ≡ Some (load, below) → problem.objective ≡ objective.Reserved → IsBoundBy problem.objective problem (Whole load)
-reserved-by problem found load below g e o = subst (λ x. IsBoundBy x problem (Whole load)) (sym o) ((load, below), subst (IsGreatestIf problem) e g, refl)
+pub reserved-by : (problem : Problem) (found : Option (ℕ × ℕ)) (load below : ℕ) → IsGreatestIf problem found → found ≡ Some (load, below) → problem.objective ≡ objective.Reserved → IsBoundAs problem.objective problem (Whole load)
+reserved-by problem found load below g e o = subst (λ x. IsBoundAs x problem (Whole load)) (sym o) ((load, below), subst (IsGreatestIf problem) e g, refl)
 
 pub flow-without : (problem : Problem) (n : ℕ) → n < length problem.flows → IsWithoutTrail problem n (flow_at problem n) → HasFlowWithoutTrail problem
 flow-without problem n h none = record { n = n; flow = flow_at problem n; stands = flow-stands problem n h; none = none }
@@ -159,7 +158,7 @@ none-over problem value (f ∷ flows) e is = let bad : ⊥ = omega (arith, e) in
 pub bound-none : (problem : Problem) (value : Value) → length problem.flows ≡ 0 → value ≡ value_by_walks problem [] → IsSeparateBound problem (Some value)
 bound-none problem value e is = none-over problem value problem.flows e is
 
-some-over : (problem : Problem) (value : Value) (flows : List Flow) → length flows ≢ 0 → IsBoundBy problem.objective problem value → IsBoundOver flows problem value
+some-over : (problem : Problem) (value : Value) (flows : List Flow) → length flows ≢ 0 → IsBoundAs problem.objective problem value → IsBoundOver flows problem value
 some-over problem value [] other is = absurd (other refl)
 some-over problem value (f ∷ flows) other is = is
 

@@ -1,5 +1,5 @@
 -- No feasible assignment has a value below the bound.
-use Rattle.std.proofs.Common.{◌≡◌, ℕ, zero, suc, ◌+◌, ◌*◌, ◌≤◌, ◌<◌, inl, inr, int_le, pos, max, Bool, true, false, List, [], ◌∷◌, ◌++◌, map, sum, Option, None, Some, slice_get, sum_by, refl, sym, ◌∙◌, ap, subst, arith}
+use Rattle.std.proofs.Common.{◌≡◌, ℕ, zero, suc, ◌+◌, ◌*◌, ◌≤◌, ◌<◌, inl, inr, int_le, pos, max, true, false, List, [], ◌∷◌, map, sum, Option, None, Some, slice_get, sum_by, refl, sym, ◌∙◌, ap, subst, arith}
 use Rattle.std.proofs.lemmas.Bool.{le-ltb}
 use Rattle.std.proofs.lemmas.List.Sums.{sum_by-cons}
 use Rattle.std.proofs.Math.Nat.{mul-le-mul_right}
@@ -15,7 +15,7 @@ use Rattle.merlin_model.specs.declared.policy.Value.TheVariants.{Whole, Ratio}
 use Rattle.merlin_model.specs.Networks.{Network, IsNetwork}
 use Rattle.merlin_model.specs.Policies.{Policy}
 use Rattle.merlin_model.specs.Rates.{greatest_of}
-use Rattle.merlin_model.specs.Assignments.{IsAssignment, IsFeasible, value_of, greatest_ratio, ratio_lt, ratio_value}
+use Rattle.merlin_model.specs.Assignments.{IsAssignment, IsFeasible, value_of, greatest_ratio, ratio_value}
 use Rattle.merlin_model.proofs.Members.{In, all_in}
 use Rattle.rules_model.specs.Products.{SymbolAutomaton}
 use Rattle.cutoff_program.specs.Flows.{variables_of, last_of, rate_over, cost_of_variable, fits_on, fits_over, loads_from, value_by, is_below}
@@ -36,9 +36,9 @@ use Rattle.cutoff_program.proofs.Forth.{sum-append}
 use Rattle.cutoff_program.proofs.Loads.{CrossAlike, value-same, feasible-fits}
 use Rattle.cutoff_program.proofs.Bridge.{trail-at}
 use Rattle.program_walks.specs.Loads.{load_on_link, cost_on_link, ratio_on_link, value_as}
-use Rattle.program_walks.specs.Bounds.{link_crossed, share_on_link, share_of_variable, share_by_number, greatest_share, IsLeastShare, IsLeastCost, IsBoundBy, IsBoundOver, HasFlowWithoutTrail, IsSeparateBound}
+use Rattle.program_walks.specs.Bounds.{link_crossed, share_on_link, share_of_variable, share_by_number, greatest_share, IsLeastShare, IsLeastCost, IsBoundAs, IsBoundOver, HasFlowWithoutTrail, IsSeparateBound}
 use Rattle.program_walks.proofs.Ratios.{IsAtMost, most-from, most-to, most-through, none-most, greatest-has, greatest-within, greatest-bounds}
-use Rattle.program_walks.proofs.Widening.{fits-crossed, fits-true, may-at, share-at}
+use Rattle.program_walks.proofs.Widening.{fits-true, may-at, share-at}
 use Rattle.program_walks.proofs.Narrowing.{shares-positive}
 use Rattle.program_walks.proofs.Adding.{nothing-loaded, nothing-cost}
 
@@ -204,9 +204,9 @@ module _ (problem : Problem) (is : IsProblem problem) where
     ratio-most : objective.Ratio ≡ problem.objective → AllByRecursion (λ k. IsAtMost (share_by_number problem k) (greatest_ratio (loads_along problem edges))) edges
     ratio-most e = each-share objective.Ratio (greatest_ratio (loads_along problem edges)) e
         (λ rate l link s h.
-            most-through (rate, link.capacity) (load l, link.capacity) (greatest_ratio (loads_along problem edges)) (mul-le-mul_right link.capacity h)
-            (on-link (λ r. IsAtMost r (greatest_ratio (loads_along problem edges))) (greatest-bounds (loads_along problem edges) (positive-loads load 0 problem.links is.links)) l link s)
-            (each-at IsLinkWithin problem.links l link is.links s).positive)
+        most-through (rate, link.capacity) (load l, link.capacity) (greatest_ratio (loads_along problem edges)) (mul-le-mul_right link.capacity h)
+        (on-link (λ r. IsAtMost r (greatest_ratio (loads_along problem edges))) (greatest-bounds (loads_along problem edges) (positive-loads load 0 problem.links is.links)) l link s)
+        (each-at IsLinkWithin problem.links l link is.links s).positive)
         (λ rate. none-most (greatest_ratio (loads_along problem edges)))
 
     reserved-most : objective.Reserved ≡ problem.objective → AllByRecursion (λ k. IsAtMost (share_by_number problem k) (greatest_of (map (λ r. r.0) (loads_along problem edges)), 1)) edges
@@ -217,7 +217,7 @@ module _ (problem : Problem) (is : IsProblem problem) where
         times : (r l m : ℕ) → r ≤ l → l ≤ m → r * 1 ≤ m * 1
         times r l m h g = omega arith
 
-    bound-by : FitsCapacities problem edges → (o : Objective) → o ≡ problem.objective → (bound : Value) → IsBoundBy o problem bound →
+    bound-by : FitsCapacities problem edges → (o : Objective) → o ≡ problem.objective → (bound : Value) → IsBoundAs o problem bound →
         is_below (value_by o (sum_along (variables_of problem) (cost_of_variable problem) edges) (loads_along problem edges)) bound ≡ false
     bound-by fits objective.Shortest e bound h =
         let c = costs-within 0 problem.flows trails h.1.0 steps (may-all fits) h.1.1 in

@@ -1,25 +1,23 @@
 -- Looking for the widest trail of a flow.
-use Rattle.std.proofs.Common.{◌≡◌, ℕ, ◌+◌, ◌*◌, ◌≤◌, ◌<◌, nat_le, Bool, true, false, List, [], ◌∷◌, map, Option, None, Some, slice_get, refl, sym, ◌∙◌, ap, subst, arith}
+use Rattle.std.proofs.Common.{◌≡◌, ℕ, ◌+◌, ◌*◌, ◌≤◌, ◌<◌, nat_le, Bool, true, false, List, [], ◌∷◌, map, Option, None, Some, slice_get, refl, sym, ◌∙◌, subst, arith}
 use Rattle.std.proofs.lemmas.Bool.{ltb-true, leb-true, leb-false}
 use Rattle.std.specs.List.{AllByRecursion}
-use Rattle.merlin_model.specs.Assignments.{greatest_ratio, ratio_lt}
+use Rattle.merlin_model.specs.Assignments.{ratio_lt}
 use Rattle.cutoff_program.specs.Flows.{variables_of, last_of}
 use Rattle.cutoff_program.specs.declared.flow.Flow.{Flow}
 use Rattle.cutoff_program.specs.declared.flow.Problem.{Problem}
 use Rattle.cutoff_program.specs.declared.flow.Variable.{Variable}
 use Rattle.cutoff_program.specs.Limits.{IsProblem}
-use Rattle.cutoff_program.specs.Trails.{IsTrailOf}
 use Rattle.cutoff_program.specs.Easy.{IsTrailThrough, MayAt}
 use Rattle.cutoff_program.proofs.Lists.{all_so, all_map, map_all, all_any}
 use Rattle.cutoff_program.proofs.Places.{get-in}
 use Rattle.cutoff_program.proofs.Points.{IsOf, trail-of}
-use Rattle.cutoff_program.proofs.Values.{ratio-positive}
 use Rattle.program_walks.specs.declared.crossing.TheConstants.{UNCROSSED}
 use Rattle.program_walks.specs.declared.paths.LeastPath.{LeastPath}
 use Rattle.program_walks.specs.Bounds.{share_by_number, greatest_share, IsLeastShare, IsWithoutTrail}
-use Rattle.program_walks.specs.Widths.{wide_point, IsWideAt, IsShareAtWidth, HasNoTrailAtWidth, IsShareIf, IsLeastShareIf}
-use Rattle.program_walks.specs.Paths.{IsChosenIn, IsLeastPath, IsLeastPathIf}
-use Rattle.program_walks.proofs.Ratios.{IsAtMost, most-from, most-to, most-through, greatest-within, greatest-bounds}
+use Rattle.program_walks.specs.Widths.{wide_point, IsWideAt, IsShareAtWidth, HasNoTrailAtWidth, IsShareIf}
+use Rattle.program_walks.specs.Paths.{IsChosenIn, IsLeastPath}
+use Rattle.program_walks.proofs.Ratios.{IsAtMost, most-through, greatest-within, greatest-bounds}
 use Rattle.program_walks.proofs.Turning.{flow-at}
 use Rattle.program_walks.proofs.Widening.{width_of, width-most, wide-may, wide-width, may-wide, share-at, share-positive, wider-share}
 
@@ -87,10 +85,10 @@ module _ (problem : Problem) (is : IsProblem problem) (n : ℕ) (flow : Flow) wh
             (all_map (λ r. IsAtMost r (share_by_number problem k)) (share_by_number problem) h.found.trail
             (all_so (λ j. IsOf (variables_of problem) n j × IsWideAt problem low j) (λ j. IsAtMost (share_by_number problem j) (share_by_number problem k)) h.found.trail
             (λ j g.
-                let wide = wide-width problem j g.0.0 g.0.1 low g.1 in
-                let order : width_of problem v ≤ width_of problem g.0.0 = omega (arith, wide, narrow, last) in
-                let most = wider-share problem v g.0.0 is (rate-is j g.0.0 g.0.1 g.0.2 ∙ sym (rate-is k v e f)) order in
-                subst (λ s. IsAtMost s (share_by_number problem k)) (sym (share-at problem j g.0.0 g.0.1)) (subst (IsAtMost _) (sym (share-at problem k v e)) most))
+            let wide = wide-width problem j g.0.0 g.0.1 low g.1 in
+            let order : width_of problem v ≤ width_of problem g.0.0 = omega (arith, wide, narrow, last) in
+            let most = wider-share problem v g.0.0 is (rate-is j g.0.0 g.0.1 g.0.2 ∙ sym (rate-is k v e f)) order in
+            subst (λ s. IsAtMost s (share_by_number problem k)) (sym (share-at problem j g.0.0 g.0.1)) (subst (IsAtMost _) (sym (share-at problem k v e)) most))
             (both-all (IsOf (variables_of problem) n) (IsWideAt problem low) h.found.trail (trail-of (variables_of problem) n h.found.trail 0 (last_of flow) h.found.through.steps) h.found.through.allowed))))
 
         at : (other : List ℕ) → IsTrailThrough problem (MayAt problem None) n flow other → (b : Bool) → ratio_lt (greatest_share problem other) share ≡ b → b ≡ false

@@ -1,16 +1,15 @@
 -- How wide variables are, and what their shares are.
-use Rattle.std.proofs.Common.{◌≡◌, ℕ, ◌+◌, ◌*◌, ◌^◌, ◌≤◌, ◌<◌, ◌&&◌, nat_le, int_le, pos, ◌≤ℤ◌, Bool, true, false, List, [], ◌∷◌, map, Option, None, Some, slice_get, refl, sym, ◌∙◌, ap, subst, arith}
+use Rattle.std.proofs.Common.{◌≡◌, ℕ, ◌*◌, ◌≤◌, ◌<◌, nat_le, int_le, pos, Bool, true, false, map, Option, None, Some, slice_get, refl, sym, ◌∙◌, ap, subst, arith}
 use Rattle.std.proofs.lemmas.Int.{ints}
 use Rattle.std.proofs.lemmas.Bool.{leb-true, le-leb}
 use Rattle.std.proofs.Math.Nat.{mul-le-mul_left}
 use Rattle.std.specs.Option.{option_map_or}
-use Rattle.std.specs.List.{AllByRecursion}
 use Rattle.merlin_model.specs.declared.network.DirectedLink.{DirectedLink}
 use Rattle.merlin_model.specs.declared.policy.Objective.{Objective}
 use Rattle.merlin_model.specs.declared.policy.Objective.TheVariants as objective
 use Rattle.merlin_model.specs.Programs.{is_chosen}
 use Rattle.merlin_model.proofs.Fitting.{and-first, and-second, and-both}
-use Rattle.cutoff_program.specs.Flows.{variables_of, room, fits_over, fits_on, may_be_one}
+use Rattle.cutoff_program.specs.Flows.{variables_of, fits_over, fits_on, may_be_one}
 use Rattle.cutoff_program.specs.declared.flow.Problem.{Problem}
 use Rattle.cutoff_program.specs.declared.flow.Variable.{Variable}
 use Rattle.cutoff_program.specs.Limits.{IsLinkWithin, IsProblem}

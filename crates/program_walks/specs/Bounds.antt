@@ -1,5 +1,5 @@
 -- The bound that takes each flow by itself.
-use Rattle.std.specs.Prelude.{ℕ, ◌≡◌, ◌+◌, false, List, [], ◌∷◌, map, sum, Option, None, Some, slice_get}
+use Rattle.std.specs.Prelude.{ℕ, ◌≡◌, false, List, [], ◌∷◌, map, sum, Option, None, Some, slice_get}
 use Rattle.std.specs.Option.{option_map_or}
 use Rattle.merlin_model.specs.declared.network.DirectedLink.{DirectedLink}
 use Rattle.merlin_model.specs.declared.policy.Objective.{Objective}
@@ -60,15 +60,15 @@ IsSumOfCosts problem total = (costs : List ℕ) × AreLeastCosts problem costs �
 abbrev pub IsGreatestOfShares : Problem → ℕ × ℕ → Type 0
 IsGreatestOfShares problem share = (shares : List (ℕ × ℕ)) × AreLeastShares problem shares × (share ≡ greatest_ratio shares)
 
-abbrev pub IsBoundBy : Objective → Problem → Value → Type 0
-IsBoundBy objective.Shortest problem value = (total : ℕ) × IsSumOfCosts problem total × (value ≡ Whole total)
-IsBoundBy objective.Ratio problem value = (share : ℕ × ℕ) × IsGreatestOfShares problem share × (value ≡ ratio_value share)
-IsBoundBy objective.Reserved problem value = (share : ℕ × ℕ) × IsGreatestOfShares problem share × (value ≡ Whole share.0)
+abbrev pub IsBoundAs : Objective → Problem → Value → Type 0
+IsBoundAs objective.Shortest problem value = (total : ℕ) × IsSumOfCosts problem total × (value ≡ Whole total)
+IsBoundAs objective.Ratio problem value = (share : ℕ × ℕ) × IsGreatestOfShares problem share × (value ≡ ratio_value share)
+IsBoundAs objective.Reserved problem value = (share : ℕ × ℕ) × IsGreatestOfShares problem share × (value ≡ Whole share.0)
 
 -- without a flow it is the value of no walks
 abbrev pub IsBoundOver : List Flow → Problem → Value → Type 0
 IsBoundOver [] problem value = value ≡ value_by_walks problem []
-IsBoundOver (flow ∷ flows) problem value = IsBoundBy problem.objective problem value
+IsBoundOver (flow ∷ flows) problem value = IsBoundAs problem.objective problem value
 
 -- a flow has no trail over variables that may be 1 without a cutoff
 abbrev pub IsWithoutTrail : Problem → ℕ → Flow → Type 0

@@ -9,7 +9,7 @@ use Rattle.cutoff_program.specs.declared.flow.Problem.{Problem}
 use Rattle.cutoff_program.specs.declared.flow.Variable.{Variable}
 use Rattle.cutoff_program.specs.Easy.{IsTrailThrough}
 use Rattle.program_walks.specs.declared.crossing.TheConstants.{UNCROSSED}
-use Rattle.program_walks.specs.Bounds.{link_crossed, greatest_share, IsLeastShare, IsWithoutTrail, HasFlowWithoutTrail, IsSumOfCosts, IsGreatestOfShares, IsBoundBy}
+use Rattle.program_walks.specs.Bounds.{link_crossed, greatest_share, IsLeastShare, IsWithoutTrail, HasFlowWithoutTrail, IsSumOfCosts, IsGreatestOfShares, IsBoundAs}
 
 -- what an edge has room for that crosses such a link: a rate, and so wide a trail
 abbrev pub has_width : ℕ → ℕ → Option DirectedLink → Bool
@@ -51,4 +51,4 @@ abbrev pub IsGreatestIf : Problem → Option (ℕ × ℕ) → Type 0
 IsGreatestIf problem found = MatchOption found (HasFlowWithoutTrail problem) (IsGreatestOfShares problem)
 
 abbrev pub IsBoundIf : Problem → Option Value → Type 0
-IsBoundIf problem found = MatchOption found (HasFlowWithoutTrail problem) (IsBoundBy problem.objective problem)
+IsBoundIf problem found = MatchOption found (HasFlowWithoutTrail problem) (IsBoundAs problem.objective problem)

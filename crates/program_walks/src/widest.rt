@@ -30,11 +30,7 @@ fn share_at_width(
     let point = wide_variables(alloc, problem, variables, width)?;
     match least_path(alloc, problem, variables, number, point.as_slice())? {
         None => Ok(None),
-        Some(found) => Ok(Some(greatest_along(
-            problem,
-            variables,
-            found.path.as_slice(),
-        ))),
+        Some(found) => Ok(Some(greatest_along(problem, variables, found.path.as_slice()))),
     }
 }
 

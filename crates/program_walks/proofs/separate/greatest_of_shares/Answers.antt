@@ -1,4 +1,4 @@
-use Rattle.std.proofs.Common.{◌≡◌, ℕ, ◌+◌, ◌-◌, ◌<◌, ◌≤◌, cond, List, length, ◌∙◌, ap, subst, arith}
+use Rattle.std.proofs.Common.{◌≡◌, ℕ, ◌+◌, ◌-◌, ◌<◌, cond, length, ◌∙◌, ap, subst, arith}
 use Rattle.merlin_model.specs.Assignments.{ratio_lt}
 use Rattle.program_walks.specs.Widths.{IsLeastShareIf}
 use Rattle.program_walks.proofs.Adding.{flow_at, flow-stands, no-shares, share-more, all-shares, flow-without}

@@ -1,4 +1,4 @@
-use Rattle.std.proofs.Common.{◌≡◌, ℕ, ◌+◌, ◌-◌, ◌<◌, ◌≤◌, List, Bool, length, refl, ◌∙◌, subst, arith}
+use Rattle.std.proofs.Common.{◌≡◌, ℕ, ◌+◌, ◌-◌, ◌<◌, length, refl, ◌∙◌, subst, arith}
 use Rattle.program_walks.specs.Paths.{IsLeastPath, IsLeastPathIf}
 use Rattle.program_walks.proofs.Adding.{flow_at, flow-stands, no-costs, cost-more, least-cost, no-cost, path-small, total-fits, all-costs, flow-without}
 use Rattle.program_walks.proofs.separate.sum_of_costs.Goals as goal

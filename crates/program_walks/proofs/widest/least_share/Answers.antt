@@ -1,4 +1,4 @@
-use Rattle.std.proofs.Common.{◌≡◌, ℕ, ◌+◌, ◌-◌, ◌/◌, ◌<◌, ◌≤◌, refl, subst, arith}
+use Rattle.std.proofs.Common.{refl, arith}
 use Rattle.cutoff_program.specs.declared.flow.Flow.{Flow}
 use Rattle.graph_search.proofs.Places.{no-more}
 use Rattle.program_walks.proofs.Narrowing.{narrowed-first, narrowed-low, narrowed-high, without-trail, widest-least}

@@ -1,4 +1,4 @@
-use Rattle.std.proofs.Common.{ℕ, ◌≡◌, ◌+◌, ◌-◌, ◌≤◌, ◌<◌, Some, slice_get}
+use Rattle.std.proofs.Common.{◌≡◌, ◌+◌, ◌-◌, ◌≤◌, ◌<◌, Some, slice_get}
 use Rattle.cutoff_program.specs.declared.flow.Flow.{Flow}
 use Rattle.program_walks.specs.declared.crossing.TheConstants.{UNCROSSED}
 use Rattle.program_walks.proofs.Narrowing.{IsNarrowed}

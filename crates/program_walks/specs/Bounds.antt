@@ -60,6 +60,7 @@ IsSumOfCosts problem total = (costs : List ℕ) × AreLeastCosts problem costs �
 abbrev pub IsGreatestOfShares : Problem → ℕ × ℕ → Type 0
 IsGreatestOfShares problem share = (shares : List (ℕ × ℕ)) × AreLeastShares problem shares × (share ≡ greatest_ratio shares)
 
+-- the bound as the objective has it
 abbrev pub IsBoundAs : Objective → Problem → Value → Type 0
 IsBoundAs objective.Shortest problem value = (total : ℕ) × IsSumOfCosts problem total × (value ≡ Whole total)
 IsBoundAs objective.Ratio problem value = (share : ℕ × ℕ) × IsGreatestOfShares problem share × (value ≡ ratio_value share)

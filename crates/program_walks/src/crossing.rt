@@ -27,7 +27,7 @@ fn link_at(problem: &Problem, crosses: Option<usize>) -> Option<DirectedLink>
     }
 }
 
-/// The share that a rate has of a link.
+/// The share that a rate has of a link: for the greatest ratio the rate and the capacity, for the greatest load the rate and 1.
 fn share_of(objective: Objective, rate: u64, link: Option<DirectedLink>) -> (u64, u64)
     ensures { result ≡ share_on_link objective rate link }
 {

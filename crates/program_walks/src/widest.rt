@@ -1,5 +1,5 @@
-//! The least share of a flow is that of a widest path. How wide it is, is found by bisection: a path that is so wide is looked for at
-//! the middle of what is left, as in searching an ordered table (Knuth, The Art of Computer Programming, 6.2.1).
+//! The least share of a flow is that of a path of maximum capacity (Pollack, The Maximum Capacity Through a Network, 1960), here
+//! called a widest path. How wide it is, is found by bisection: at the middle of what is left a path that is so wide is looked for.
 
 ghost use Rattle.std.specs.Prelude.{ℕ, ◌≡◌, ◌≤◌, ◌<◌, List, length, Some, slice_get, IfOk};
 ghost use Rattle.cutoff_program.specs.Flows.{variables_of};
@@ -13,7 +13,7 @@ use cutoff_program::flow::{Problem, Variable};
 use merlin_model::OutOfMemory;
 use std::alloc::Global;
 
-/// The greatest share along some path of a flow that is so wide. None where no path is.
+/// The greatest share along some path of a flow that is so wide, in kbit/s. None where no path is.
 fn share_at_width(
     alloc: Global,
     problem: &Problem,
@@ -34,7 +34,8 @@ fn share_at_width(
     }
 }
 
-/// The least share among the paths of a flow. None where no path leads to its end.
+/// The least share among the paths of a flow, in kbit/s: for the greatest ratio its rate and the capacity of the narrowest link, else its
+/// rate and 1. None where no path leads to its end.
 pub fn least_share(
     alloc: Global,
     problem: &Problem,

@@ -1,4 +1,4 @@
--- The problem of a policy keeps the limits.
+-- Flows over the links of a network keep the limits, and so does the problem of a policy.
 use Rattle.std.proofs.Common.{◌≡◌, ℕ, suc, ◌+◌, ◌-◌, ◌*◌, ◌^◌, ◌≤◌, ◌<◌, max, ◌⊎◌, inl, inr, List, [], ◌∷◌, map, length, Option, None, Some, IfSome, slice_get, sum_by, refl, sym, ◌∙◌, ap, subst, arith}
 use Rattle.std.proofs.lemmas.List.Sums.{sum_by-cons}
 use Rattle.std.specs.List.{AllByRecursion, AllZip}
@@ -10,7 +10,7 @@ use Rattle.merlin_model.specs.Policies.{Policy}
 use Rattle.merlin_model.specs.Rates.{min_of}
 use Rattle.merlin_model.proofs.Members.{in_to}
 use Rattle.rules_model.specs.Products.{SymbolAutomaton, Vertex, start_of, IsEdge, IsLast}
-use Rattle.cutoff_program.specs.Flows.{Flow, Problem, last_of}
+use Rattle.cutoff_program.specs.Flows.{FlowEdge, Flow, Problem, last_of, variables_of, cost_of_variable}
 use Rattle.cutoff_program.specs.Limits.{IsEdgeOf, IsFlow, IsLinkWithin, IsProblem}
 use Rattle.cutoff_program.specs.Products.{Product, IsTrimmed, IsProduct, IsJoined, place_between, loc_at, edge_of, flow_of}
 use Rattle.cutoff_program.specs.Walks.{IsFlowOf, IsProblemOf, KeepsPolicyLimits}
@@ -62,14 +62,20 @@ edge-is net a s d rate product t e j = by j.2
         apart : (x y z : ℕ) → x < y → z ≡ y → x ≡ z → ⊥
         apart x y z h f g = let bad : ⊥ = omega arith in bad
 
-flow-is : (net : Network) (policy : Policy) (automata : ℕ → SymbolAutomaton) (ends : Ends) (flow : Flow) → min_of policy ends.statement ≤ 10 ^ 9 → IsFlowOf net policy automata ends flow → IsFlow (directed_links net) flow
-flow-is net policy automata ends flow small of = subst (IsFlow (directed_links net)) (sym of.is) (record { rate = small; edges = by of.is_product })
+pub product-flow : (net : Network) (a : SymbolAutomaton) (s d rate : ℕ) (product : Product) → rate ≤ 10 ^ 9 → IsProduct net a s d product → IsFlow (directed_links net) (flow_of net rate product)
+product-flow net a s d rate product small is = record { rate = small; edges = by is }
   where
-    by : IsProduct net (automata ends.statement) ends.src ends.dst of.product → AllByRecursion (IsEdgeOf (directed_links net) (last_of (flow_of net (min_of policy ends.statement) of.product))) (map (edge_of net of.product.vertices) of.product.edges)
-    by (inl cut) = subst (λ es. AllByRecursion (IsEdgeOf (directed_links net) (last_of (flow_of net (min_of policy ends.statement) of.product))) (map (edge_of net of.product.vertices) es)) (sym cut.edges) tt
-    by (inr t) = all_map (IsEdgeOf (directed_links net) (last_of (flow_of net (min_of policy ends.statement) of.product))) (edge_of net of.product.vertices) of.product.edges
-        (all-from (λ e. IsEdgeOf (directed_links net) (last_of (flow_of net (min_of policy ends.statement) of.product)) (edge_of net of.product.vertices e)) of.product.edges
-        (λ e i. edge-is net (automata ends.statement) ends.src ends.dst (min_of policy ends.statement) of.product t e ((t.joined e).0 (in_to of.product.edges e i))))
+    IsIn : FlowEdge → Type 0
+    IsIn = IsEdgeOf (directed_links net) (last_of (flow_of net rate product))
+
+    by : IsProduct net a s d product → AllByRecursion IsIn (map (edge_of net product.vertices) product.edges)
+    by (inl cut) = subst (λ es. AllByRecursion IsIn (map (edge_of net product.vertices) es)) (sym cut.edges) tt
+    by (inr t) = all_map IsIn (edge_of net product.vertices) product.edges
+        (all-from (λ e. IsIn (edge_of net product.vertices e)) product.edges
+        (λ e i. edge-is net a s d rate product t e ((t.joined e).0 (in_to product.edges e i))))
+
+flow-is : (net : Network) (policy : Policy) (automata : ℕ → SymbolAutomaton) (ends : Ends) (flow : Flow) → min_of policy ends.statement ≤ 10 ^ 9 → IsFlowOf net policy automata ends flow → IsFlow (directed_links net) flow
+flow-is net policy automata ends flow small of = subst (IsFlow (directed_links net)) (sym of.is) (product-flow net (automata ends.statement) ends.src ends.dst (min_of policy ends.statement) of.product small of.is_product)
 
 flows-are : (net : Network) (policy : Policy) (automata : ℕ → SymbolAutomaton) (ends : List Ends) (flows : List Flow) → AllByRecursion (λ e. min_of policy e.statement ≤ 10 ^ 9) ends → AllZip (IsFlowOf net policy automata) ends flows → AllByRecursion (IsFlow (directed_links net)) flows
 flows-are net policy automata [] [] small of = tt
@@ -102,25 +108,47 @@ links-are : (ws : List DirectedLink) → AllByRecursion (λ directed. 0 < direct
 links-are [] p s = tt
 links-are (directed ∷ ws) p s = (record { positive = p.0; small = s.0 }, links-are ws p.1 s.1)
 
-pub problem-is : (net : Network) (policy : Policy) (automata : ℕ → SymbolAutomaton) (ends : List Ends) (objective : Objective) (problem : Problem) → IsNetwork net → IsProblemOf net policy automata ends objective problem → KeepsPolicyLimits net policy ends problem → IsProblem problem
-problem-is net policy automata ends objective problem ok of limits = record {
-  flows = subst (λ ws. AllByRecursion (IsFlow ws) problem.flows) (sym of.links_are) (flows-are net policy automata ends problem.flows limits.rates of.flows);
-  links = subst (AllByRecursion IsLinkWithin) (sym of.links_are) (links-are (directed_links net) (positive (directed_links net) ok.ends) limits.capacities);
-  few_variables = limits.edges;
-  costs = limits.costs;
+positive : (net : Network) (ws : List DirectedLink) → AllByRecursion (JoinsLocations net) ws → AllByRecursion (λ directed. 0 < directed.capacity) ws
+positive net [] all = tt
+positive net (directed ∷ ws) all = (all.0.3, positive net ws all.1)
+
+-- a few flows over the links of a network
+pub record AreFewFlows (net : Network) (problem : Problem) : Type 0 where
+  pub links_are : problem.links ≡ directed_links net
+  pub flows : AllByRecursion (IsFlow (directed_links net)) problem.flows
+  pub few : length problem.flows ≤ 64
+  pub vertices : sum_by (λ flow. flow.vertices) problem.flows ≤ 8192
+  pub edges : length (variables_of problem) ≤ 32768
+  pub links_few : length (directed_links net) ≤ 2048
+  pub capacities : AllByRecursion (λ directed. directed.capacity ≤ 10 ^ 9) (directed_links net)
+  pub costs : AllByRecursion (λ v. cost_of_variable problem v ≤ 10 ^ 9) (variables_of problem)
+
+pub few-flows : (net : Network) (problem : Problem) → IsNetwork net → AreFewFlows net problem → IsProblem problem
+few-flows net problem ok are = record {
+  flows = subst (λ ws. AllByRecursion (IsFlow ws) problem.flows) (sym are.links_are) are.flows;
+  links = subst (AllByRecursion IsLinkWithin) (sym are.links_are) (links-are (directed_links net) (positive net (directed_links net) ok.ends) are.capacities);
+  few_variables = are.edges;
+  costs = are.costs;
   few_rows =
       let a = count-vertices problem.flows in
-      let b = count-flows net policy automata ends problem.flows of.flows in
-      let c = ap length of.links_are in
-      let d = limits.few in
-      let e = limits.vertices in
-      let f = limits.links_few in
-      small _ _ _ _ _ _ a b c d e f;
+      let c = ap length are.links_are in
+      let d = are.few in
+      let e = are.vertices in
+      let f = are.links_few in
+      small _ _ _ _ _ a c d e f;
 }
   where
-    small : (s v n m w x : ℕ) → s ≤ v + 2 * n → n ≡ m → w ≡ x → m ≤ 64 → v ≤ 8192 → x ≤ 2048 → s + w < 16384
-    small s v n m w x a b c d e f = omega arith
+    small : (s v n w x : ℕ) → s ≤ v + 2 * n → w ≡ x → n ≤ 64 → v ≤ 8192 → x ≤ 2048 → s + w < 16384
+    small s v n w x a c d e f = omega arith
 
-    positive : (ws : List DirectedLink) → AllByRecursion (JoinsLocations net) ws → AllByRecursion (λ directed. 0 < directed.capacity) ws
-    positive [] all = tt
-    positive (directed ∷ ws) all = (all.0.3, positive ws all.1)
+pub problem-is : (net : Network) (policy : Policy) (automata : ℕ → SymbolAutomaton) (ends : List Ends) (objective : Objective) (problem : Problem) → IsNetwork net → IsProblemOf net policy automata ends objective problem → KeepsPolicyLimits net policy ends problem → IsProblem problem
+problem-is net policy automata ends objective problem ok of limits = few-flows net problem ok (record {
+  links_are = of.links_are;
+  flows = flows-are net policy automata ends problem.flows limits.rates of.flows;
+  few = let b = count-flows net policy automata ends problem.flows of.flows in let d = limits.few in omega (arith, b, d);
+  vertices = limits.vertices;
+  edges = limits.edges;
+  links_few = limits.links_few;
+  capacities = limits.capacities;
+  costs = limits.costs;
+})

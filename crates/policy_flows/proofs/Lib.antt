@@ -1,0 +1,4 @@
+pub mod Pairs
+pub mod Added
+pub mod Heaviest
+pub mod Counted

@@ -1,3 +1,8 @@
 mod Rated
 mod Kinding
 mod Leading
+mod PlannedGroups
+mod Spanning
+mod Inner
+mod Counting
+mod Gathering

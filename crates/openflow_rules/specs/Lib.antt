@@ -1,2 +1,6 @@
+pub mod Gathered
 pub mod Kinds
 pub mod Planning
+pub mod Prepared
+pub mod Spans
+pub mod TagKeys

@@ -1,13 +1,13 @@
 -- What a plan of rules is made for, and why there is none: the limits of tags, cells and entries.
-use Rattle.std.specs.Prelude.{ℕ, ◌≡◌, ◌≤◌, ◌<◌, ◌+◌, ◌↔◌, ◌==◌, ◌&&◌, ⊤, List, [], ◌∷◌, length, map, filter, filter_map, sum_by, is_some, slice_get, Contains}
-use Rattle.std.specs.List.{range_with_len}
+use Rattle.std.specs.Prelude.{ℕ, ◌≡◌, ◌≤◌, ◌<◌, ◌+◌, ◌↔◌, ◌==◌, ◌&&◌, ⊤, List, [], ◌∷◌, Option, None, Some, length, map, filter_map, sum_by, count_by, is_some, slice_get, Contains}
+use Rattle.std.specs.List.{AllByRecursion, AllZip, enumerate_from, flat_map}
 use Rattle.merlin_model.specs.declared.policy.Ends.{Ends}
 use Rattle.merlin_model.specs.declared.policy.Symbol.{Symbol}
 use Rattle.merlin_model.specs.Networks.{Network, IsHost, Pairwise}
 use Rattle.merlin_model.specs.Words.{at}
 use Rattle.path_automaton.specs.Automata.{AutomatonTables}
 use Rattle.topology.specs.Symbols.{network_symbols}
-use Rattle.rules_model.specs.Products.{Vertex, loc_of, Group, IsVertex}
+use Rattle.rules_model.specs.Products.{Vertex, loc_of, WrittenWalk, Group, IsVertex}
 use Rattle.rules_model.specs.Tables.{TagKey, IsBelowKey, IsTagKey, all_hosts}
 use Rattle.product_graph.specs.Products.{IsBefore}
 use Rattle.predicate_split.specs.declared.fault.TheConstants.{MAX_CELLS}
@@ -44,16 +44,25 @@ pub record AreInnerVertices (net : Network) (groups : List Group) (g d : ℕ) (v
 
 -- a vertex counts one, and one more for each vertex with a function at its location
 abbrev pub entries_of : List Vertex → Vertex → ℕ
-entries_of vertices v = 1 + length (filter (λ u. (loc_of u == loc_of v) && is_some u.symbol.fun) vertices)
+entries_of vertices v = 1 + count_by (λ u. (loc_of u == loc_of v) && is_some u.symbol.fun) vertices
 
 abbrev pub entries_in : List Vertex → ℕ
 entries_in vertices = sum_by (entries_of vertices) vertices
 
--- so many entries there are, over all groups and destinations
+-- a guaranteed group has one product, that of its ends; every other one has those of all destinations
+abbrev pub destinations_of : Network → Option WrittenWalk → List ℕ
+destinations_of net None = all_hosts net
+destinations_of net (Some w) = w.dest ∷ []
+
+-- the products of some groups, each by its group and its destination
+abbrev pub products_of : Network → List Group → List (ℕ × ℕ)
+products_of net groups = flat_map (λ g. map (λ d. (g.0, d)) (destinations_of net g.1.written)) (enumerate_from 0 groups)
+
+-- so many entries there are, over all products
 pub record HaveEntries (net : Network) (groups : List Group) (count : ℕ) : Type 0 where
-  pub vertices : ℕ → ℕ → List Vertex
-  pub are : (g d : ℕ) → g < length groups → IsHost net d → AreInnerVertices net groups g d (vertices g d)
-  pub count_is : count ≡ sum_by (λ g. sum_by (λ d. entries_in (vertices g d)) (all_hosts net)) (range_with_len 0 (length groups))
+  pub vertices : List (List Vertex)
+  pub are : AllZip (λ p vs. AreInnerVertices net groups p.0 p.1 vs) (products_of net groups) vertices
+  pub count_is : count ≡ sum_by entries_in vertices
 
 module _ (net : Network) (checked : CheckedPolicy) (ends : List Ends) where
   -- The groups of the policy, before walks are chosen: of a guaranteed one only the ends are known.
@@ -63,21 +72,27 @@ module _ (net : Network) (checked : CheckedPolicy) (ends : List Ends) where
     pub grouped : AreGrouped checked.policy leaders group_of
     pub are : AreGroups checked.policy (network_symbols net) (statement_automata checked) ends (bare_walks ends) leaders groups
 
-  -- there are so many tags
-  pub record HasTags (count : ℕ) : Type 0 where
+  -- the tags are no more than there may be
+  pub record HasFewTags : Type 0 where
     pub groups : List Group
     pub planned : ArePlanned groups
     pub tags : List TagKey
     pub are : AreTags net groups tags
-    pub count_is : count ≡ length tags
+    pub few : length tags ≤ MAX_TAGS
+
+  -- there are more tags than there may be: so many different ones
+  pub record HasManyTags : Type 0 where
+    pub groups : List Group
+    pub planned : ArePlanned groups
+    pub tags : List TagKey
+    pub ascend : Pairwise IsBelowKey tags
+    pub each : AllByRecursion (IsTagKey net groups) tags
+    pub many : MAX_TAGS < length tags
 
   pub record HasEntries (count : ℕ) : Type 0 where
     pub groups : List Group
     pub planned : ArePlanned groups
     pub are : HaveEntries net groups count
-
-  abbrev pub HasFewTags : Type 0
-  HasFewTags = (n : ℕ) × HasTags n × (n ≤ MAX_TAGS)
 
   abbrev pub HasFewCells : Type 0
   HasFewCells = count_of_cells net checked.policy ≤ MAX_CELLS
@@ -93,7 +108,7 @@ module _ (net : Network) (checked : CheckedPolicy) (ends : List Ends) where
 
   -- Why there is no plan: the first limit that is passed, tags before cells before entries, counted up to one past it. Want of memory has no cause.
   abbrev pub PassesLimit : RuleFault → Type 0
-  PassesLimit (TooManyTags count) = ((n : ℕ) × HasTags n × (MAX_TAGS < n)) × (count ≡ MAX_TAGS + 1)
+  PassesLimit (TooManyTags count) = HasManyTags × (count ≡ MAX_TAGS + 1)
   PassesLimit (TooManyCells count) = HasFewTags × (MAX_CELLS < count_of_cells net checked.policy) × (count ≡ MAX_CELLS + 1)
   PassesLimit (TooManyEntries count) = HasFewTags × HasFewCells × ((n : ℕ) × HasEntries n × (MAX_ENTRIES < n)) × (count ≡ MAX_ENTRIES + 1)
   PassesLimit OutOfMemory = ⊤

@@ -1,8 +1,14 @@
 //! The rules of switches and the `process` lines of middleboxes for a checked policy.
 #![tactic(auto)]
 
+mod cells;
+mod entries;
 mod fault;
+mod gathering;
 mod groups;
+mod plan;
+mod spans;
+mod tags;
 
 pub use fault::{MAX_ENTRIES, MAX_TAGS, RuleFault};
 pub use groups::{Groups, groups_of};

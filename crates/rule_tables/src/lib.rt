@@ -1,0 +1,9 @@
+//! The rules of switches and the `process` lines of middleboxes, from the vertices that follow each other and the cells of each pair of hosts.
+#![tactic(auto)]
+
+mod branches;
+mod tables;
+
+pub use branches::{Branch, GroupBranches, OwnedCell, Step, TagKey};
+pub use merlin_model::OutOfMemory;
+pub use tables::{Tables, tables};

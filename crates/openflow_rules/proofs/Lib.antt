@@ -6,3 +6,4 @@ mod Spanning
 mod Inner
 mod Counting
 mod Gathering
+mod Keys

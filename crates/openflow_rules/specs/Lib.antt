@@ -3,4 +3,3 @@ pub mod Kinds
 pub mod Planning
 pub mod Prepared
 pub mod Spans
-pub mod TagKeys

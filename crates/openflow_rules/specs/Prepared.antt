@@ -1,5 +1,5 @@
 -- What is made ready for the tables of a checked policy.
-use Rattle.std.specs.Prelude.{ℕ, ◌≡◌, ◌≤◌, ◌<◌, ◌+◌, ⊤, List, length, Option, None, IsSome}
+use Rattle.std.specs.Prelude.{ℕ, ◌≡◌, ◌≤◌, ◌<◌, ◌+◌, ⊤, List, length, map, Option, None, IsSome}
 use Rattle.merlin_model.specs.declared.policy.Ends.{Ends}
 use Rattle.merlin_model.specs.Networks.{Network}
 use Rattle.merlin_model.specs.Policies.{Policy}
@@ -15,7 +15,7 @@ use Rattle.openflow_rules.specs.declared.fault.RuleFault.TheVariants.{TooManyTag
 use Rattle.openflow_rules.specs.declared.gathering.Gathered.{Gathered}
 use Rattle.openflow_rules.specs.declared.plan.Prepared.{Prepared}
 use Rattle.openflow_rules.specs.Planning.{statement_automata, bare_walks, AreTags, HaveEntries}
-use Rattle.openflow_rules.specs.TagKeys.{tag_keys}
+use Rattle.rule_tables.specs.Branches.{key_of}
 use Rattle.openflow_rules.specs.Gathered.{IsRoomBeside}
 
 -- the groups of the statements that stand for them, before walks are chosen
@@ -38,7 +38,7 @@ pub record IsPrepared (net : Network) (checked : CheckedPolicy) (ends : List End
   pub grouped : AreGrouped checked.policy p.groups.leaders p.groups.group_of
   pub groups : List Group
   pub are : AreBareGroups net checked ends p.groups.leaders groups
-  pub tags : AreTags net groups (tag_keys p.tags)
+  pub tags : AreTags net groups (map key_of p.tags)
 
 -- The fault where there is no room for entries.
 abbrev pub IsEntryFault : Option ℕ → RuleFault → Type 0

@@ -5,25 +5,17 @@ ghost use Rattle.merlin_model.specs.Networks.{Pairwise};
 ghost use Rattle.product_graph.specs.Products.{vertex_of};
 ghost use Rattle.rules_model.specs.Tables.{tag_key_of, IsBelowKey};
 ghost use Rattle.openflow_rules.specs.declared.fault.TheConstants.{MAX_TAGS};
-ghost use Rattle.openflow_rules.specs.TagKeys.{tag_keys};
+ghost use Rattle.rule_tables.specs.Branches.{key_of};
 ghost use Rattle.openflow_rules.specs.Gathered.{IsKeyPut, AreTagsPut, IsTagOfVertex, IsTagFault};
 
 use crate::fault::{MAX_TAGS, RuleFault};
 use merlin_model::OutOfMemory;
 use product_graph::Vertex;
+use rule_tables::TagKey;
 use sqlite_items::Items;
 use std::alloc::Global;
 use std::collections::BTreeSet;
 use std::marker::Model;
-
-/// A tag stands for a group, a state and a function of vertices. Tags go by these, and at each state
-/// first without a function.
-#[derive(Clone, Copy, PartialEq, Eq, PartialOrd, Ord)]
-pub struct TagKey {
-    pub group: usize,
-    pub state: usize,
-    pub fun: Option<usize>,
-}
 
 /// Tags, each once and in order.
 #[derive(Drop)]
@@ -40,9 +32,10 @@ impl Model for TagSet {
 
     ghost coded = { Prim.hlevel codes };
 
-    ghost use Rattle.openflow_rules.specs.TagKeys.{tag_keys};
+    ghost use Rattle.std.specs.Prelude.{map};
+    ghost use Rattle.rule_tables.specs.Branches.{key_of};
 
-    ghost view = { λ s. tag_keys s.keys.keys };
+    ghost view = { λ s. map key_of s.keys.keys };
 }
 
 impl TagSet {
@@ -76,7 +69,7 @@ impl TagSet {
 
     /// The tags as a list.
     pub fn into_items(self, alloc: Global) -> Result<Items<TagKey>, OutOfMemory>
-        ensures { IfOk result (λ keys. tag_keys keys ≡ self) }
+        ensures { IfOk result (λ keys. map key_of keys ≡ self) }
     {
         let mut keys = Items::new(alloc);
         for key in self.keys.iter() {

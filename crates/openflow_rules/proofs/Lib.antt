@@ -7,3 +7,4 @@ mod Inner
 mod Counting
 mod Gathering
 mod Keys
+mod Sinking

@@ -1,5 +1,7 @@
 pub mod Gathered
 pub mod Kinds
 pub mod Planning
-pub mod Prepared
+pub mod PlanParts
+pub mod Sinks
 pub mod Spans
+pub mod WalkBranches

@@ -7,8 +7,10 @@ mod fault;
 mod gathering;
 mod groups;
 mod plan;
+mod sinks;
 mod spans;
 mod tags;
+mod walks;
 
 pub use fault::{MAX_ENTRIES, MAX_TAGS, RuleFault};
 pub use groups::{Groups, groups_of};

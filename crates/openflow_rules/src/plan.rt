@@ -7,8 +7,8 @@ ghost use Rattle.rules_model.specs.Tables.{all_hosts};
 ghost use Rattle.policy_check.specs.Checked.{HasAutomata};
 ghost use Rattle.configuration_model.specs.Groups.{AreGrouped};
 ghost use Rattle.openflow_rules.specs.Planning.{IsWithinLimits, PassesLimit};
-ghost use Rattle.openflow_rules.specs.Prepared.{IsGatheredFor, IsPrepared};
-ghost use Rattle.openflow_rules.specs.Prepared.{IsEntryFault, IsWithinRest, IsRestFault};
+ghost use Rattle.openflow_rules.specs.PlanParts.{IsGatheredFor, ArePlanParts};
+ghost use Rattle.openflow_rules.specs.PlanParts.{IsEntryFault, IsWithinRest, IsRestFault};
 
 use crate::cells::ask_cells;
 use crate::fault::{MAX_ENTRIES, RuleFault};
@@ -25,7 +25,7 @@ use topology::Topology;
 
 /// The groups of a policy, and their tags in order.
 #[derive(Drop)]
-pub struct Prepared {
+pub struct PlanParts {
     pub groups: Groups,
     pub tags: Items<TagKey>,
 }
@@ -95,10 +95,10 @@ fn prepare(
     checked: &Checked,
     ends: &[Ends],
     net: &Topology,
-) -> Result<Prepared, RuleFault>
+) -> Result<PlanParts, RuleFault>
     requires automata { HasAutomata (network_symbols net.now) checked.now }
     requires ends { AreAllEnds net.now checked.now.policy ends.now }
-    ensures ok { IfOk result (IsPrepared net.now checked.now ends.now) }
+    ensures ok { IfOk result (ArePlanParts net.now checked.now ends.now) }
     ensures limits { IfOk result (λ _. IsWithinLimits net.now checked.now ends.now) }
     ensures err { IfErr result (PassesLimit net.now checked.now ends.now) }
 {
@@ -108,5 +108,5 @@ fn prepare(
     let gathered = gather_groups(alloc, checked, ends, net, hosts.as_slice(), leaders)?;
     ask_rest(alloc, net, checked, hosts.as_slice(), gathered.room)?;
     let tags = gathered.tags.into_items(alloc)?;
-    Ok(Prepared { groups, tags })
+    Ok(PlanParts { groups, tags })
 }

@@ -6,4 +6,4 @@ mod tables;
 
 pub use branches::{Branch, GroupBranches, OwnedCell, Step, TagKey};
 pub use merlin_model::OutOfMemory;
-pub use tables::{Tables, tables};
+pub use tables::{Tables, tables_of};

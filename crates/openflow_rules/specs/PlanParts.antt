@@ -13,7 +13,7 @@ use Rattle.openflow_rules.specs.declared.fault.TheConstants.{MAX_TAGS, MAX_ENTRI
 use Rattle.openflow_rules.specs.declared.fault.RuleFault.{RuleFault}
 use Rattle.openflow_rules.specs.declared.fault.RuleFault.TheVariants.{TooManyTags, TooManyCells, TooManyEntries, OutOfMemory}
 use Rattle.openflow_rules.specs.declared.gathering.Gathered.{Gathered}
-use Rattle.openflow_rules.specs.declared.plan.Prepared.{Prepared}
+use Rattle.openflow_rules.specs.declared.plan.PlanParts.{PlanParts}
 use Rattle.openflow_rules.specs.Planning.{statement_automata, bare_walks, AreTags, HaveEntries}
 use Rattle.rule_tables.specs.Branches.{key_of}
 use Rattle.openflow_rules.specs.Gathered.{IsRoomBeside}
@@ -34,7 +34,7 @@ pub record IsGatheredFor (net : Network) (checked : CheckedPolicy) (ends : List 
   pub room : IsRoomBeside count g.room
 
 -- the groups with their tags
-pub record IsPrepared (net : Network) (checked : CheckedPolicy) (ends : List Ends) (p : Prepared) : Type 0 where
+pub record ArePlanParts (net : Network) (checked : CheckedPolicy) (ends : List Ends) (p : PlanParts) : Type 0 where
   pub grouped : AreGrouped checked.policy p.groups.leaders p.groups.group_of
   pub groups : List Group
   pub are : AreBareGroups net checked ends p.groups.leaders groups

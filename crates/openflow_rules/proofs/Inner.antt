@@ -19,7 +19,7 @@ use Rattle.product_graph.proofs.Lists.{none-some, false-true, all-contained, con
 use Rattle.policy_check.specs.Checked.{CheckedPolicy}
 use Rattle.openflow_rules.specs.declared.spans.GroupSpan.{GroupSpan}
 use Rattle.openflow_rules.specs.Planning.{AreInnerVertices}
-use Rattle.openflow_rules.specs.Spans.{IsSpanOf, IsGroupSpan}
+use Rattle.openflow_rules.specs.GroupSpans.{IsSpanOf, IsGroupSpan}
 use Rattle.openflow_rules.specs.Gathered.{is_inner, AreAtLocations, AreInnerOf}
 
 -- whether a vertex is at no host

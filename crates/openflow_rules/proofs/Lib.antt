@@ -5,6 +5,8 @@ mod PlannedGroups
 mod Spanning
 mod Inner
 mod Counting
-mod Gathering
+mod Additions
 mod Keys
 mod Sinking
+mod Limits
+mod Branching

@@ -21,7 +21,7 @@ use Rattle.policy_check.specs.Checked.{CheckedPolicy, HasAutomata, automaton_of_
 use Rattle.configuration_model.specs.Groups.{Leads, AreGrouped, IsGroupOf, AreGroups, written_walk_of}
 use Rattle.configuration_model.proofs.Lists.{find-in}
 use Rattle.openflow_rules.specs.Planning.{statement_automata, bare_walks, ArePlanned}
-use Rattle.openflow_rules.specs.Spans.{ends_for, bare_walk, group_by}
+use Rattle.openflow_rules.specs.GroupSpans.{ends_for, bare_walk, group_by}
 
 no_table : AutomatonTables
 no_table = record { steps = []; width = 0; accepting = []; living = [] }
@@ -30,17 +30,13 @@ no_table = record { steps = []; width = 0; accepting = []; living = [] }
 abbrev pub planned : Network → CheckedPolicy → List Ends → ℕ → Group
 planned net checked ends j = group_by net ends j (unwrap_or (automaton_of_statement checked j) no_table)
 
--- what all lead to a value stands at the same place in the list of values
-filtered-at : {X Y : Type 0} (f : X → Option Y) (xs : List X) (k : ℕ) (x : X) (y : Y) → ((i : ℕ) (a : X) → slice_get xs i ≡ Some a → (b : Y) × (f a ≡ Some b)) → slice_get xs k ≡ Some x → f x ≡ Some y → slice_get (filter_map f xs) k ≡ Some y
+-- where all before lead to values, what leads to a value stands at the same place among the values
+filtered-at : {X Y : Type 0} (f : X → Option Y) (xs : List X) (k : ℕ) (x : X) (y : Y) → ((i : ℕ) (a : X) → i < k → slice_get xs i ≡ Some a → (b : Y) × (f a ≡ Some b)) → slice_get xs k ≡ Some x → f x ≡ Some y → slice_get (filter_map f xs) k ≡ Some y
 filtered-at f [] k x y all e is = absurd (none-some e)
-filtered-at {X} {Y} f (a ∷ xs) k x y all e is = by (all 0 a refl)
-  where
-    at-place : (k : ℕ) (b : Y) → f a ≡ Some b → slice_get (a ∷ xs) k ≡ Some x → slice_get (b ∷ filter_map f xs) k ≡ Some y
-    at-place zero b fb e = sym fb ∙ ap f (some-same e) ∙ is
-    at-place (suc k) b fb e = filtered-at f xs k x y (λ i c at_i. all (suc i) c at_i) e is
-
-    by : (b : Y) × (f a ≡ Some b) → slice_get (filter_map f (a ∷ xs)) k ≡ Some y
-    by h = subst (λ o. slice_get (cons_option o (filter_map f xs)) k ≡ Some y) (sym h.1) (at-place k h.0 h.1 e)
+filtered-at f (a ∷ xs) zero x y all e is = ap (λ o. slice_get (cons_option o (filter_map f xs)) 0) (ap f (some-same e) ∙ is)
+filtered-at f (a ∷ xs) (suc k) x y all e is =
+    let first = all 0 a (omega arith) refl in
+    ap (λ o. slice_get (cons_option o (filter_map f xs)) (suc k)) first.1 ∙ filtered-at f xs k x y (λ i b lt at_i. all (suc i) b (omega (arith, lt)) at_i) e is
 
 zip-map : {X Y : Type 0} (R : X → Y → Type 0) (f : X → Y) (xs : List X) → AllByRecursion (λ x. R x (f x)) xs → AllZip R xs (map f xs)
 zip-map R f [] h = tt
@@ -117,43 +113,40 @@ module _ (net : Network) (checked : CheckedPolicy) (ends : List Ends) (automata 
       by e h true is = absurd (free (subst (IsGuaranteed checked.policy) (is-j j e is) h.guaranteed))
       by e h false is = is
 
-  -- what is needed of the numbers of automata: as many as there are paths
-  module _ (numbers : length checked.automaton_numbers ≡ length (paths_of checked.policy)) where
-    stands-at : (j : ℕ) (t : AutomatonTables) → automaton_of_statement checked j ≡ Some t → slice_get (statement_automata checked) j ≡ Some t
-    stands-at j t is = by (slice_get checked.automaton_numbers j) refl is
-      where
-        each : (i n : ℕ) → slice_get checked.automaton_numbers i ≡ Some n → (table : AutomatonTables) × (slice_get checked.automata n ≡ Some table)
-        each i n at_i =
-            let lt = get-below checked.automaton_numbers i n at_i in
-            let t = table-of i (omega (arith, lt, numbers)) in
-            (t.table, sym (ap (option_and_then (slice_get checked.automata)) at_i) ∙ t.is)
+  stands-at : (j : ℕ) (t : AutomatonTables) → j < length (paths_of checked.policy) → automaton_of_statement checked j ≡ Some t → slice_get (statement_automata checked) j ≡ Some t
+  stands-at j t lt is = by (slice_get checked.automaton_numbers j) refl is
+    where
+      each : (i n : ℕ) → i < j → slice_get checked.automaton_numbers i ≡ Some n → (table : AutomatonTables) × (slice_get checked.automata n ≡ Some table)
+      each i n before at_i =
+          let t = table-of i (omega (arith, lt, before)) in
+          (t.table, sym (ap (option_and_then (slice_get checked.automata)) at_i) ∙ t.is)
 
-        by : (o : Option ℕ) → slice_get checked.automaton_numbers j ≡ o → option_and_then (slice_get checked.automata) o ≡ Some t → slice_get (statement_automata checked) j ≡ Some t
-        by None at_j is = absurd (none-some is)
-        by (Some n) at_j is = filtered-at (slice_get checked.automata) checked.automaton_numbers j n t each at_j is
+      by : (o : Option ℕ) → slice_get checked.automaton_numbers j ≡ o → option_and_then (slice_get checked.automata) o ≡ Some t → slice_get (statement_automata checked) j ≡ Some t
+      by None at_j is = absurd (none-some is)
+      by (Some n) at_j is = filtered-at (slice_get checked.automata) checked.automaton_numbers j n t each at_j is
 
-    group-of : (j : ℕ) → j < length (paths_of checked.policy) → IsGroupOf checked.policy (network_symbols net) (statement_automata checked) ends (bare_walks ends) j (planned net checked ends j)
-    group-of j lt =
-        let t = table-of j lt in
-        record {
-          tables = t.table;
-          stands = stands-at j t.table t.is;
-          automaton = ap (λ o. automaton_of (network_symbols net) (unwrap_or o no_table)) t.is;
-          best_effort = λ free. (ap (option_map bare_walk) (found-none j ends (no-ends j free)), ap (option_map suc) (position-none j 0 ends (no-ends j free)));
-          guaranteed = λ k e w at_k is walk. (
-            ap (option_map bare_walk) (found-at j ends k e up at_k is)
-            ∙ ap (λ x. Some (written_walk_of (planned net checked ends j).automaton e x)) (some-same (sym (get-map (λ x. at x.src ∷ at x.dst ∷ []) ends k e at_k) ∙ walk)),
-            ap (option_map suc) (position-at j 0 ends k e up at_k is ∙ ap Some (let s : 0 + k ≡ k = omega arith in s)),
-          );
-        }
+  group-of : (j : ℕ) → j < length (paths_of checked.policy) → IsGroupOf checked.policy (network_symbols net) (statement_automata checked) ends (bare_walks ends) j (planned net checked ends j)
+  group-of j lt =
+      let t = table-of j lt in
+      record {
+        tables = t.table;
+        stands = stands-at j t.table lt t.is;
+        automaton = ap (λ o. automaton_of (network_symbols net) (unwrap_or o no_table)) t.is;
+        best_effort = λ free. (ap (option_map bare_walk) (found-none j ends (no-ends j free)), ap (option_map suc) (position-none j 0 ends (no-ends j free)));
+        guaranteed = λ k e w at_k is walk. (
+          ap (option_map bare_walk) (found-at j ends k e up at_k is)
+          ∙ ap (λ x. Some (written_walk_of (planned net checked ends j).automaton e x)) (some-same (sym (get-map (λ x. at x.src ∷ at x.dst ∷ []) ends k e at_k) ∙ walk)),
+          ap (option_map suc) (position-at j 0 ends k e up at_k is ∙ ap Some (let s : 0 + k ≡ k = omega arith in s)),
+        );
+      }
 
-    pub are-planned : (leaders group_of : List ℕ) → AreGrouped checked.policy leaders group_of → ArePlanned net checked ends (map (planned net checked ends) leaders)
-    are-planned leaders group_of grouped = record {
-      leaders = leaders;
-      group_of = group_of;
-      grouped = grouped;
-      are = zip-map _ (planned net checked ends) leaders (each leaders (λ j c. ((grouped.leaders_are j).0 c).0));
-    }
-      where
-        each : (js : List ℕ) → ((j : ℕ) → Contains js j → j < length (paths_of checked.policy)) → AllByRecursion (λ j. IsGroupOf checked.policy (network_symbols net) (statement_automata checked) ends (bare_walks ends) j (planned net checked ends j)) js
-        each js within = all-contained _ js (λ j c. group-of j (within j c))
+  pub are-planned : (leaders group_of : List ℕ) → AreGrouped checked.policy leaders group_of → ArePlanned net checked ends (map (planned net checked ends) leaders)
+  are-planned leaders group_of grouped = record {
+    leaders = leaders;
+    group_of = group_of;
+    grouped = grouped;
+    are = zip-map _ (planned net checked ends) leaders (each leaders (λ j c. ((grouped.leaders_are j).0 c).0));
+  }
+    where
+      each : (js : List ℕ) → ((j : ℕ) → Contains js j → j < length (paths_of checked.policy)) → AllByRecursion (λ j. IsGroupOf checked.policy (network_symbols net) (statement_automata checked) ends (bare_walks ends) j (planned net checked ends j)) js
+      each js within = all-contained _ js (λ j c. group-of j (within j c))

@@ -14,7 +14,7 @@ use Rattle.sink_tree.specs.Trees.{NextLeads, IsSinkTree}
 use Rattle.rule_tables.specs.declared.branches.Step.{Step}
 use Rattle.rule_tables.specs.declared.branches.Branch.{Branch}
 use Rattle.rule_tables.specs.Branches.{vertex_in, vertex_at, next_at, LeadsOn}
-use Rattle.openflow_rules.specs.Sinks.{before_end, AreStepsBelow, IsSinkBranch}
+use Rattle.openflow_rules.specs.SinkBranches.{before_end, AreStepsBelow, IsSinkBranch}
 
 get-mapped : {X Y : Type 0} (f : X → Y) (xs : List X) (k : ℕ) → slice_get (map f xs) k ≡ option_map f (slice_get xs k)
 get-mapped f [] k = refl

@@ -20,7 +20,7 @@ use Rattle.policy_check.specs.Checked.{CheckedPolicy, HasAutomata, automaton_of_
 use Rattle.configuration_model.proofs.Decided.{host-listed}
 use Rattle.openflow_rules.specs.declared.spans.GroupSpan.{GroupSpan}
 use Rattle.openflow_rules.specs.Planning.{destinations_of, products_of, AreInnerVertices}
-use Rattle.openflow_rules.specs.Spans.{ends_for, bare_walk, span_to, spans_by, spans_over, IsSpanOf, IsGroupSpan}
+use Rattle.openflow_rules.specs.GroupSpans.{ends_for, bare_walk, span_to, spans_by, spans_over, IsSpanOf, IsGroupSpan}
 use Rattle.openflow_rules.specs.Gathered.{AreInnerOf, IsTagIn}
 use Rattle.openflow_rules.proofs.PlannedGroups.{planned, IsTableOf, table-of, ends-are}
 

@@ -1,17 +1,22 @@
 -- What the products of groups come to: their tags, and how many more entries there may be.
-use Rattle.std.specs.Prelude.{ℕ, ◌≡◌, ◌≤◌, ◌<◌, ◌+◌, ◌⊎◌, ◌↔◌, ◌==◌, ◌&&◌, ⊤, Bool, not, List, length, sum_by, count_by, is_some, Option, None, Some, Contains}
+use Rattle.std.specs.Prelude.{ℕ, ◌≡◌, ◌≤◌, ◌<◌, ◌+◌, ◌⊎◌, ◌↔◌, ◌==◌, ◌&&◌, ⊤, Bool, not, List, [], ◌∷◌, ◌++◌, length, sum_by, count_by, is_some, IsSome, Option, None, Some, Contains}
 use Rattle.std.specs.List.{AllByRecursion, AllZip, slice_index_or}
 use Rattle.merlin_model.specs.Networks.{Network, IsHost, Pairwise, kind_of}
-use Rattle.rules_model.specs.Products.{Vertex, loc_of, Group, IsVertex}
+use Rattle.rules_model.specs.Products.{SymbolAutomaton, Vertex, loc_of, Group, IsVertex}
 use Rattle.rules_model.specs.Tables.{TagKey as ModelKey, tag_key_of, IsBelowKey, is_host_kind}
 use Rattle.product_graph.specs.declared.span.Vertex.{Vertex as ListedVertex}
+use Rattle.product_graph.specs.declared.span.Span2.{Span2}
+use Rattle.product_graph.specs.declared.span.Span2.TheVariants.{Pair, All}
 use Rattle.product_graph.specs.Products.{dest_of, vertex_of}
+use Rattle.rule_tables.specs.declared.branches.Branch.{Branch}
+use Rattle.rule_tables.specs.Branches.{IsBranch}
 use Rattle.predicate_split.specs.declared.fault.TheConstants.{MAX_CELLS}
 use Rattle.openflow_rules.specs.declared.fault.TheConstants.{MAX_TAGS, MAX_ENTRIES}
 use Rattle.openflow_rules.specs.declared.fault.RuleFault.{RuleFault}
 use Rattle.openflow_rules.specs.declared.fault.RuleFault.TheVariants.{TooManyTags, TooManyCells, TooManyEntries, OutOfMemory}
 use Rattle.openflow_rules.specs.declared.spans.GroupSpan.{GroupSpan}
 use Rattle.openflow_rules.specs.Planning.{AreInnerVertices, entries_in}
+use Rattle.openflow_rules.specs.SinkBranches.{IsSinkBranch}
 use Rattle.openflow_rules.specs.declared.gathering.Gathered.{Gathered}
 
 -- the vertex is at no host
@@ -68,7 +73,25 @@ IsTagFault IsKey (TooManyCells count) = ⊥
 IsTagFault IsKey (TooManyEntries count) = ⊥
 IsTagFault IsKey OutOfMemory = ⊤
 
+-- the branch is that of a product of best effort; of a guaranteed one nothing is said
+abbrev pub IsBranchOfSpan : Network → SymbolAutomaton → Span2 → Branch → Type 0
+IsBranchOfSpan net a (All d) branch = IsSinkBranch net a d branch
+IsBranchOfSpan net a (Pair s d) branch = ⊤
+
+-- the branch was kept where there is room
+abbrev pub IsBranchKept : Option ℕ → Branch → List Branch → List Branch → Type 0
+IsBranchKept None branch old new = new ≡ old
+IsBranchKept (Some room) branch old new = new ≡ old ++ branch ∷ []
+
 module _ (net : Network) (groups : List Group) where
+  -- the branch is that of group g for the span, if it is of best effort
+  abbrev pub IsBranchBy : ℕ → Span2 → Branch → Type 0
+  IsBranchBy g (All d) branch = (branch.dest ≡ d) × IsBranch net groups g branch
+  IsBranchBy g (Pair s d) branch = ⊤
+
+  abbrev pub IsBranchFor : GroupSpan → Branch → Type 0
+  IsBranchFor s branch = IsBranchBy s.group s.span branch
+
   -- the vertices at no host of a product
   abbrev pub AreInnerOf : GroupSpan → List Vertex → Type 0
   AreInnerOf s vertices = AreInnerVertices net groups s.group (dest_of s.span) vertices
@@ -82,6 +105,17 @@ module _ (net : Network) (groups : List Group) where
     pub stands : IsVertex net groups span.group (dest_of span.span) vertex
     pub is : key ≡ tag_key_of span.group vertex
 
+  -- what a product comes to was added
+  pub record IsAddition (s : GroupSpan) (old new : Gathered) : Type 0 where
+    pub vertices : List Vertex
+    pub are : AreInnerOf s vertices
+    pub tags : AreTagsPut s.group vertices old.tags new.tags
+    pub few : length new.tags ≤ MAX_TAGS
+    pub room : IsRoomAfter old.room (entries_in vertices) new.room
+    pub branch : Branch
+    pub branch_is : IsBranchFor s branch
+    pub kept : IsBranchKept new.room branch old.branches new.branches
+
   -- what these products come to
   pub record IsGathered (spans : List GroupSpan) (g : Gathered) : Type 0 where
     pub tags : (k : ModelKey) → Contains g.tags k ↔ IsTagIn spans k
@@ -89,6 +123,7 @@ module _ (net : Network) (groups : List Group) where
     pub vertices : List (List Vertex)
     pub are : AllZip AreInnerOf spans vertices
     pub room : IsRoomBeside (sum_by entries_in vertices) g.room
+    pub branches : IsSome g.room → AllZip IsBranchFor spans g.branches
 
 abbrev pub AreAllBelow : ℕ → List ℕ → Type 0
 AreAllBelow n ks = AllByRecursion (λ k. k < n) ks

@@ -1,7 +1,7 @@
 pub mod Gathered
+pub mod GroupSpans
 pub mod Kinds
-pub mod Planning
 pub mod PlanParts
-pub mod Sinks
-pub mod Spans
+pub mod Planning
+pub mod SinkBranches
 pub mod WalkBranches

@@ -6,7 +6,7 @@ ghost use Rattle.rules_model.specs.Products.{SymbolAutomaton};
 ghost use Rattle.product_graph.specs.declared.span.Span2.TheVariants.{All};
 ghost use Rattle.product_graph.specs.Products.{IsProduct};
 ghost use Rattle.sink_tree.specs.Trees.{next_in};
-ghost use Rattle.openflow_rules.specs.Sinks.{before_end as before_the_end, AreStepsBelow, IsSinkBranch};
+ghost use Rattle.openflow_rules.specs.SinkBranches.{before_end as before_the_end, AreStepsBelow, IsSinkBranch};
 
 use merlin_model::OutOfMemory;
 use product_graph::Product;

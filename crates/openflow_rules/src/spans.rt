@@ -4,7 +4,7 @@
 ghost use Rattle.std.specs.Prelude.{◌≡◌, ◌++◌, ◌==◌, map, filter, find, IfOk, OnOk};
 ghost use Rattle.merlin_model.specs.Networks.{kind_of};
 ghost use Rattle.rules_model.specs.Tables.{all_hosts};
-ghost use Rattle.openflow_rules.specs.Spans.{span_to, spans_by, spans_over};
+ghost use Rattle.openflow_rules.specs.GroupSpans.{span_to, spans_by, spans_over};
 
 use merlin_model::OutOfMemory;
 use merlin_model::policy::Ends;

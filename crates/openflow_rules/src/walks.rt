@@ -1,10 +1,10 @@
 //! The branch of a guaranteed statement: the vertices of its walk, each with the next one.
 
-ghost use Rattle.std.specs.Prelude.{◌≡◌, ◌<◌, ◌+◌, ◌^◌, nat_lt, length, Contains, Some, None, IfOk, if◌then◌else◌};
+ghost use Rattle.std.specs.Prelude.{◌≡◌, ◌<◌, length, Contains, IfOk};
 ghost use Rattle.std.specs.List.{AllByRecursion};
 ghost use Rattle.product_graph.specs.Products.{automaton_of};
 ghost use Rattle.path_automaton.specs.Automata.{number_in, is_same_symbol};
-ghost use Rattle.openflow_rules.specs.WalkBranches.{IsWalkBranch};
+ghost use Rattle.openflow_rules.specs.WalkBranches.{AreStepsAlong, IsWalkBranch};
 
 use merlin_model::OutOfMemory;
 use merlin_model::policy::Symbol;
@@ -34,7 +34,39 @@ fn number_of(symbols: &[Symbol], symbol: Symbol) -> usize
     symbols.len()
 }
 
-/// The branch of a walk: its vertices before the last, in the automaton of its statement, each with
+/// The vertices of these symbols, each with the next one.
+fn steps_along(
+    alloc: Global,
+    symbols: &[Symbol],
+    automaton: &Automaton,
+    inner: &[Symbol],
+) -> Result<Items<Step>, OutOfMemory>
+    requires width { automaton.now.width ≡ length symbols.now }
+    requires symbols { AllByRecursion (Contains symbols.now) inner.now }
+    ensures { IfOk result
+        (AreStepsAlong (automaton_of symbols.now automaton.now) inner.now) }
+{
+    // there is a first state
+    let _ = automaton.states();
+    let mut steps = Items::new(alloc);
+    let mut state = 0;
+    for (place, symbol) in inner.iter().enumerate() {
+        state = automaton.step(state, number_of(symbols, *symbol));
+        let vertex = Vertex {
+            symbol: *symbol,
+            state,
+        };
+        let next = if place + 1 < inner.len() {
+            Some(place + 1)
+        } else {
+            None
+        };
+        steps.push(Step { vertex, next })?;
+    }
+    Ok(steps)
+}
+
+/// The branch of a walk: its vertices before the end, in the automaton of its statement, each with
 /// the next one.
 pub fn walk_branch(
     alloc: Global,
@@ -48,30 +80,10 @@ pub fn walk_branch(
     ensures { IfOk result
         (IsWalkBranch (automaton_of symbols.now automaton.now) walk.now dest) }
 {
-    // there is a first state
-    let _ = automaton.states();
-    let mut steps = Items::new(alloc);
-    let mut state = 0;
-    for (place, symbol) in walk.iter().enumerate() {
-        let left = walk.len() - place;
-        if left > 1 {
-            state = automaton.step(state, number_of(symbols, *symbol));
-            steps.push(Step {
-                vertex: Vertex {
-                    symbol: *symbol,
-                    state,
-                },
-                next: next_place(place, left),
-            })?;
-        }
-    }
+    let inner = match walk.split_last() {
+        Some((_, inner)) => inner,
+        None => walk,
+    };
+    let steps = steps_along(alloc, symbols, automaton, inner)?;
     Ok(Branch { dest, steps })
-}
-
-/// The place after this one of a walk with so many symbols left, if a vertex stands there.
-fn next_place(place: usize, left: usize) -> Option<usize>
-    requires { place + left < 2 ^ 64 }
-    ensures { result ≡ (if nat_lt 2 left then Some (place + 1) else None) }
-{
-    if left > 2 { Some(place + 1) } else { None }
 }

@@ -1,7 +1,7 @@
 use Rattle.std.proofs.Common.{◌≤◌, List, length, take}
 use Rattle.std.specs.List.{AllByRecursion}
 use Rattle.rules_model.specs.Products.{Group}
-use Rattle.openflow_rules.specs.Spans.{IsGroupSpan}
+use Rattle.openflow_rules.specs.GroupSpans.{IsGroupSpan}
 use Rattle.openflow_rules.specs.Gathered.{IsGathered}
 use Rattle.openflow_rules.proofs.gathering.gather.Given as goal
 

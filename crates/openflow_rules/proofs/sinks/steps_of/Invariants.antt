@@ -1,5 +1,5 @@
 use Rattle.sink_tree.specs.Trees.{next_in}
-use Rattle.openflow_rules.specs.Sinks.{AreStepsBelow}
+use Rattle.openflow_rules.specs.SinkBranches.{AreStepsBelow}
 use Rattle.openflow_rules.proofs.sinks.steps_of.Given as goal
 
 abbrev pub invariant-loop-place : goal.invariant-loop-place

@@ -1,5 +1,5 @@
 use Rattle.std.proofs.Common.{◌≡◌, ◌++◌, map, take}
-use Rattle.openflow_rules.specs.Spans.{span_to}
+use Rattle.openflow_rules.specs.GroupSpans.{span_to}
 use Rattle.openflow_rules.proofs.spans.add_all_spans.Given as goal
 
 abbrev pub invariant-loop-host : goal.invariant-loop-host

@@ -1,6 +1,6 @@
 -- What products come to, one after the other.
-use Rattle.std.proofs.Common.{◌≡◌, ◌<◌, ◌≤◌, ◌⊎◌, ◌↔◌, inl, inr, ◌+◌, ℕ, List, [], ◌∷◌, ◌++◌, length, map, Contains, Option, refl, sym, ◌∙◌, ap, subst, arith}
-use Rattle.std.specs.Prelude.{sum_by}
+use Rattle.std.proofs.Common.{◌≡◌, ◌<◌, ◌≤◌, ◌⊎◌, ◌↔◌, inl, inr, ◌+◌, ℕ, List, [], ◌∷◌, ◌++◌, length, map, Contains, Option, None, Some, refl, sym, ◌∙◌, ap, subst, arith}
+use Rattle.std.specs.Prelude.{sum_by, IsSome}
 use Rattle.std.specs.List.{AllByRecursion, AllZip}
 use Rattle.std.proofs.lemmas.List.Sums.{sum_by_push}
 use Rattle.merlin_model.specs.Networks.{Network, IsHost}
@@ -8,14 +8,14 @@ use Rattle.merlin_model.proofs.Members.{in_to, in_append-right}
 use Rattle.rules_model.specs.Products.{Vertex, loc_of, Group, IsVertex}
 use Rattle.rules_model.specs.Tables.{TagKey as ModelKey, tag_key_of}
 use Rattle.product_graph.specs.Products.{dest_of}
-use Rattle.product_graph.proofs.Lists.{all-map, contains-left, contains-right, contains-last, contains-one, contains-snoc, contains-none}
+use Rattle.product_graph.proofs.Lists.{all-map, none-some, contains-left, contains-right, contains-last, contains-one, contains-snoc, contains-none}
 use Rattle.openflow_rules.specs.declared.fault.TheConstants.{MAX_TAGS}
 use Rattle.openflow_rules.specs.declared.fault.RuleFault.{RuleFault}
 use Rattle.openflow_rules.specs.declared.fault.RuleFault.TheVariants.{TooManyTags, TooManyCells, TooManyEntries, OutOfMemory}
 use Rattle.openflow_rules.specs.declared.spans.GroupSpan.{GroupSpan}
 use Rattle.openflow_rules.specs.declared.gathering.Gathered.{Gathered}
 use Rattle.openflow_rules.specs.Planning.{entries_in}
-use Rattle.openflow_rules.specs.Gathered.{IsRoomAfter, IsRoomBeside, IsKeyPut, IsTagOfVertex, AreTagsPut, AreManyKeys, IsTagFault, AreInnerOf, IsTagIn, IsGathered}
+use Rattle.openflow_rules.specs.Gathered.{IsRoomAfter, IsRoomBeside, IsKeyPut, IsTagOfVertex, AreTagsPut, AreManyKeys, IsTagFault, AreInnerOf, IsBranchKept, IsBranchFor, IsTagIn, IsAddition, IsGathered}
 use Rattle.openflow_rules.proofs.Counting.{room-next}
 
 -- keys of a kind are keys of a wider kind
@@ -78,11 +78,11 @@ module _ (group : ℕ) where
 
 -- The products, one after the other.
 module _ (net : Network) (groups : List Group) where
-  zip-snoc : (spans : List GroupSpan) (s : GroupSpan) (vertices : List (List Vertex)) (vs : List Vertex) → AllZip (AreInnerOf net groups) spans vertices → AreInnerOf net groups s vs → AllZip (AreInnerOf net groups) (spans ++ s ∷ []) (vertices ++ vs ∷ [])
-  zip-snoc [] s [] vs h is = (is, tt)
-  zip-snoc [] s (v ∷ vertices) vs h is = absurd h
-  zip-snoc (x ∷ spans) s [] vs h is = absurd h
-  zip-snoc (x ∷ spans) s (v ∷ vertices) vs h is = (h.0, zip-snoc spans s vertices vs h.1 is)
+  zip-snoc : {X Y : Type 0} (R : X → Y → Type 0) (xs : List X) (x : X) (ys : List Y) (y : Y) → AllZip R xs ys → R x y → AllZip R (xs ++ x ∷ []) (ys ++ y ∷ [])
+  zip-snoc R [] x [] y h is = (is, tt)
+  zip-snoc R [] x (v ∷ ys) y h is = absurd h
+  zip-snoc R (u ∷ xs) x [] y h is = absurd h
+  zip-snoc R (u ∷ xs) x (v ∷ ys) y h is = (h.0, zip-snoc R xs x ys y h.1 is)
 
   -- a tag of one product is one of all
   pub in-more : (spans more : List GroupSpan) (k : ModelKey) → IsTagIn net groups spans k → IsTagIn net groups (spans ++ more) k
@@ -108,31 +108,38 @@ module _ (net : Network) (groups : List Group) where
       by (inl c) = inl (record { span = t.span; among = c; vertex = t.vertex; outside = t.outside; stands = t.stands; is = t.is })
       by (inr e) = inr (record { span = t.span; among = subst (λ x. Contains (s ∷ []) x) (sym e) (contains-last [] s); vertex = t.vertex; outside = t.outside; stands = t.stands; is = t.is })
 
-  pub gathered-none : (g : Gathered) → g.tags ≡ [] → IsRoomBeside 0 g.room → IsGathered net groups [] g
-  gathered-none g none room = record {
+  pub gathered-none : (g : Gathered) → g.tags ≡ [] → IsRoomBeside 0 g.room → g.branches ≡ [] → IsGathered net groups [] g
+  gathered-none g none room empty = record {
     tags = λ k. (λ c. absurd (contains-none k (subst (λ l. Contains l k) none c)), λ t. absurd (contains-none t.span t.among));
     few = let e : length g.tags ≡ 0 = ap length none in omega (arith, e);
     vertices = [];
     are = tt;
     room = room;
+    branches = λ some. subst (AllZip (IsBranchFor net groups) []) (sym empty) tt;
   }
 
-  pub gathered-next : (spans : List GroupSpan) (s : GroupSpan) (vs : List Vertex) (old new : Gathered) → IsGathered net groups spans old → AreInnerOf net groups s vs → AreTagsPut s.group vs old.tags new.tags → length new.tags ≤ MAX_TAGS → IsRoomAfter old.room (entries_in vs) new.room → IsGathered net groups (spans ++ s ∷ []) new
-  gathered-next spans s vs old new h are put few room = record {
-    tags = λ k. (λ c. to k ((put k).0 c), λ t. (put k).1 (from k (last-or spans s k t)));
-    few = few;
-    vertices = h.vertices ++ vs ∷ [];
-    are = zip-snoc spans s h.vertices vs h.are are;
-    room = subst (λ n. IsRoomBeside n new.room) (sym (sum_by_push entries_in h.vertices vs)) (room-next (sum_by entries_in h.vertices) (entries_in vs) old.room new.room h.room room);
+  pub gathered-next : (spans : List GroupSpan) (s : GroupSpan) (old new : Gathered) → IsGathered net groups spans old → IsAddition net groups s old new → IsGathered net groups (spans ++ s ∷ []) new
+  gathered-next spans s old new h add = record {
+    tags = λ k. (λ c. to k ((add.tags k).0 c), λ t. (add.tags k).1 (from k (last-or spans s k t)));
+    few = add.few;
+    vertices = h.vertices ++ add.vertices ∷ [];
+    are = zip-snoc (AreInnerOf net groups) spans s h.vertices add.vertices h.are add.are;
+    room = subst (λ n. IsRoomBeside n new.room) (sym (sum_by_push entries_in h.vertices add.vertices)) (room-next (sum_by entries_in h.vertices) (entries_in add.vertices) old.room new.room h.room add.room);
+    branches = λ some. kept old.room new.room h.branches add.room add.kept some;
   }
     where
-      to : (k : ModelKey) → Contains old.tags k ⊎ IsTagOfVertex s.group vs k → IsTagIn net groups (spans ++ s ∷ []) k
+      to : (k : ModelKey) → Contains old.tags k ⊎ IsTagOfVertex s.group add.vertices k → IsTagIn net groups (spans ++ s ∷ []) k
       to k (inl c) = in-more spans (s ∷ []) k ((h.tags k).0 c)
-      to k (inr t) = in-last spans s k (of-inner s vs are k t)
+      to k (inr t) = in-last spans s k (of-inner s add.vertices add.are k t)
 
-      from : (k : ModelKey) → IsTagIn net groups spans k ⊎ IsTagIn net groups (s ∷ []) k → Contains old.tags k ⊎ IsTagOfVertex s.group vs k
+      from : (k : ModelKey) → IsTagIn net groups spans k ⊎ IsTagIn net groups (s ∷ []) k → Contains old.tags k ⊎ IsTagOfVertex s.group add.vertices k
       from k (inl t) = inl ((h.tags k).1 t)
-      from k (inr t) = inr (inner-of s vs are k t)
+      from k (inr t) = inr (inner-of s add.vertices add.are k t)
+
+      kept : (before after : Option ℕ) → (IsSome before → AllZip (IsBranchFor net groups) spans old.branches) → IsRoomAfter before (entries_in add.vertices) after → IsBranchKept after add.branch old.branches new.branches → IsSome after → AllZip (IsBranchFor net groups) (spans ++ s ∷ []) new.branches
+      kept before None all room keep some = let no : ⊥ = cc in absurd no
+      kept None (Some left) all room keep some = absurd (none-some (sym room))
+      kept (Some r) (Some left) all room keep some = subst (AllZip (IsBranchFor net groups) (spans ++ s ∷ [])) (sym keep) (zip-snoc (IsBranchFor net groups) spans s old.branches add.branch (all refl) add.branch_is)
 
   -- what the fault of one more product is for all of them
   pub gathered-wider : (spans rest : List GroupSpan) (s : GroupSpan) (g : Gathered) → IsGathered net groups spans g → (k : ModelKey) → Contains g.tags k ⊎ IsTagIn net groups (s ∷ []) k → IsTagIn net groups (spans ++ s ∷ rest) k

@@ -1,1 +1,5 @@
 pub mod Branches
+pub mod Buckets
+pub mod Searches
+pub mod Hops
+pub mod Rows

@@ -2,8 +2,12 @@
 #![tactic(auto)]
 
 mod branches;
+mod buckets;
+mod hops;
+mod rows;
 mod tables;
+mod tags;
 
 pub use branches::{Branch, GroupBranches, OwnedCell, Step, TagKey};
 pub use merlin_model::OutOfMemory;
-pub use tables::{Tables, tables};
+pub use tables::{Tables, tables_of};

@@ -1,0 +1,4 @@
+pub mod Spreading
+pub mod Sorting
+pub mod Leading
+pub mod Following

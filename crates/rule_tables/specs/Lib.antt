@@ -3,3 +3,4 @@ pub mod Buckets
 pub mod Searches
 pub mod Hops
 pub mod Rows
+pub mod Entries

@@ -3,7 +3,9 @@
 
 mod branches;
 mod buckets;
+mod entries;
 mod hops;
+mod lines;
 mod rows;
 mod tables;
 mod tags;

@@ -4,3 +4,4 @@ pub mod Searches
 pub mod Hops
 pub mod Rows
 pub mod Entries
+pub mod Placed

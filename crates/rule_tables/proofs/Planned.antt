@@ -141,3 +141,188 @@ module _ (net : Network) (cells : ℕ → ℕ → List (Cell × ℕ)) where
       from : (cs : List OwnedCell) → ((c : OwnedCell) → In c cs → IsPair (owned_of c)) → AreBetweenHosts net cs
       from [] h = tt
       from (c ∷ cs) h = let p = h c (inl refl) in (record { source = p.source; dest = p.dest; differ = p.differ }, from cs (λ x i. h x (inr i)))
+
+module _ (net : Network) (of : List Group) (cells : ℕ → ℕ → List (Cell × ℕ)) (tags : List ListedKey) (branches : List GroupBranches) (owned : List OwnedCell)
+    (ok : IsNetwork net) (written_are : AreWrittenWalks net of) (prepared : IsPrepared net of cells tags branches owned)
+    (rows : List Row) (rows_are : AreRowsOf net of tags (spots_from 0 branches) rows)
+    (entries : List Entry) (entries_are : AllZip (IsEntryOf net of tags) owned entries) where
+  abbrev locations : ℕ
+  locations = length net.locations
+
+  abbrev count : ℕ
+  count = length tags + 1
+
+  abbrev sorted : List Row
+  sorted = sorted_rows locations count rows
+
+  abbrev plan : Plan
+  plan = record { tags = map key_of tags; rows = map table_row sorted; entries = map entry_of entries }
+
+  groups_at : (g : ℕ) (group : GroupBranches) → slice_get branches g ≡ Some group → AreGroupBranches net of g group
+  groups_at = prepared.branches_are.each
+
+  later : Pairwise (IsLater net of tags) rows
+  later = rows-later net of tags (spots_from 0 branches) rows
+      (all-apart net of 0 branches (λ i group e. subst (λ n. AreGroupBranches net of n group) (let s : i ≡ 0 + i = omega arith in s) (groups_at i group e)))
+      rows_are
+
+  -- a row by the tags alone is a row of the plan
+  row-here : (row : TableRow) → IsTableRow net of (tags_alone tags) row → IsTableRow net of plan row
+  row-here row r = record { after = r.after; followed = r.followed; outside = r.outside; tag = r.tag; address = r.address; dest = r.dest; eth = r.eth; hop = r.hop; queue = r.queue }
+
+  entry-here : (e : IngressEntry) → IsIngressEntry net of (tags_alone tags) e → IsIngressEntry net of plan e
+  entry-here e r = record { pair = r.pair; hop = by e.hop r.hop; queue = r.queue }
+    where
+      by : (h : Option _) → IsFirstHop net of (tags_alone tags) e.group e.pair.source e.pair.dest h → IsFirstHop net of plan e.group e.pair.source e.pair.dest h
+      by None x = x
+      by (Some hop) x = x
+
+  made : (row : Row) → In row rows → (spot : Spot) × In spot (spots_from 0 branches) × IsRowOf net of tags spot row
+  made = row-spot net of tags (spots_from 0 branches) rows rows_are
+
+  queue-above : (g : ℕ) → queue_in of g ≢ Some 0
+  queue-above g e = by (slice_get branches g) refl
+    where
+      by : (o : Option GroupBranches) → slice_get branches g ≡ o → ⊥
+      by (Some group) here = (groups_at g group here).queue_above ((groups_at g group here).queue ∙ e)
+      by None here = none-some (sym (ap queue_at (gone (slice_get_cases branches g).1)) ∙ e)
+        where
+          gone : _ → slice_get of g ≡ None
+          gone (inl h) = absurd (none-some (sym here ∙ h.2.1))
+          gone (inr h) = past (slice_get_cases of g).1
+            where
+              past : _ → slice_get of g ≡ None
+              past (inl k) = let size = prepared.branches_are.size in let le = h.0 in let lt = k.1 in let no_way : ⊥ = omega arith in absurd no_way
+              past (inr k) = k.1
+
+  rows-are : (row : TableRow) → Contains plan.rows row → IsTableRow net of plan row
+  rows-are row c =
+      let m = in_map table_row sorted row (in_from plan.rows row c) in
+      let n = made m.0 (in-sorted count rows locations m.0 m.1) in
+      subst (IsTableRow net of plan) (sym m.2) (row-here (table_row m.0) n.2.is)
+
+  each-row : (g d : ℕ) (v : Vertex) (us : List Vertex) → Follows net of g d v us → (¬ IsHost net (loc_of v)) → (row : TableRow) × Contains plan.rows row × (row.group ≡ g) × (row.dest ≡ d) × (row.vertex ≡ v)
+  each-row g d v us h outside = by (slice_get branches g) refl
+    where
+      there : slice_get of g ≡ None → ⊥
+      there none = subst (λ o. FollowsAt net o d v us) none h
+
+      by : (o : Option GroupBranches) → slice_get branches g ≡ o → (row : TableRow) × Contains plan.rows row × (row.group ≡ g) × (row.dest ≡ d) × (row.vertex ≡ v)
+      by None here = absurd (there (gone (slice_get_cases of g).1))
+        where
+          gone : _ → slice_get of g ≡ None
+          gone (inr k) = k.1
+          gone (inl k) = inside (slice_get_cases branches g).1
+            where
+              inside : _ → slice_get of g ≡ None
+              inside (inl b) = absurd (none-some (sym here ∙ b.2.1))
+              inside (inr b) = let size = prepared.branches_are.size in let le = b.0 in let lt = k.1 in let no_way : ⊥ = omega arith in absurd no_way
+      by (Some group) here =
+          (table_row row, in_to plan.rows (table_row row) (map_in table_row sorted row (sorted-in count rows locations row m.1 tag loc)), is.group, is.dest ∙ found.2, is.vertex)
+        where
+          found : (branch : Branch) × Contains group.branches branch × (branch.dest ≡ d)
+          found = (groups_at g group here).all d v us h
+
+          branch : IsBranch net of g found.0
+          branch = (groups_at g group here).each found.0 found.1
+
+          followed : Follows net of g found.0.dest v us
+          followed = subst (λ e. Follows net of g e v us) (sym found.2) h
+
+          spot : In (g, found.0.dest, v) (spots_from 0 branches)
+          spot = subst (λ n. In (n, found.0.dest, v) (spots_from 0 branches)) (let s : 0 + g ≡ g = omega arith in s)
+              (spot-in net of 0 branches g group found.0 v here (in_from group.branches found.0 found.1) (in_from (map vertex_in found.0.steps) v (branch.all v us followed)))
+
+          m : (row : Row) × In row rows × IsRowOf net of tags (g, found.0.dest, v) row
+          m = spot-row net of tags (spots_from 0 branches) rows rows_are (g, found.0.dest, v) spot outside
+
+          row : Row
+          row = m.0
+
+          is : IsRowOf net of tags (g, found.0.dest, v) row
+          is = m.2
+
+          tag : row.tag < count
+          tag = let k = is.is.tag.0 in let lt : k < length (map key_of tags) = slice_get_within (map key_of tags) k _ is.is.tag.1 in let same = length-map-keys tags in let e = is.is.tag.2 in omega arith
+            where
+              length-map-keys : (ks : List ListedKey) → length (map key_of ks) ≡ length ks
+              length-map-keys [] = refl
+              length-map-keys (k ∷ ks) = ap suc (length-map-keys ks)
+
+          loc : loc_in row < locations
+          loc = subst (λ u. loc_of u < locations) (sym is.vertex) (symbol-location net v.symbol ((group_routing net of written_are).symbol g d v us h))
+
+  pub plan-is : IsPlan net of plan
+  plan-is = record {
+    queues_above = queue-above;
+    tags_differ = place-one IsBelowKey key-never (map key_of tags) prepared.tags_ascend;
+    rows_are = rows-are;
+    each_row = each-row;
+    entries_are = λ e c. let m = in_map entry_of entries e (in_from plan.entries e c) in
+        subst (IsIngressEntry net of plan) (sym m.2) (entry-here (entry_of m.0) (entry-is net of tags owned entries entries_are m.0 m.1));
+  }
+
+  pub in-order : IsInOrder net of cells plan
+  in-order = record {
+    tags = prepared.tags_ascend;
+    tags_are = prepared.tags_are;
+    rows = up sorted (sorted-up count rows later locations);
+    entries = entries-owned net of tags owned entries entries_are ∙ prepared.owned_are;
+  }
+    where
+      up : (xs : List Row) → Pairwise (λ r s. IsBelowRow (table_row r) (table_row s)) xs → Pairwise IsBelowRow (map table_row xs)
+      up [] h = tt
+      up (x ∷ xs) h = (all xs h.0, up xs h.1)
+        where
+          all : (ys : List Row) → AllByRecursion (λ s. IsBelowRow (table_row x) (table_row s)) ys → AllByRecursion (IsBelowRow (table_row x)) (map table_row ys)
+          all [] k = tt
+          all (y ∷ ys) k = (k.0, all ys k.1)
+
+  -- Its tables.
+
+  abbrev here : ℕ → TableRow → Bool
+  here loc row = loc_of row.vertex == loc
+
+  rows-part : (loc : ℕ) → loc < locations → filter (here loc) plan.rows ≡ map table_row (rows_at count rows loc)
+  rows-part loc lt =
+      filter-map (here loc) table_row sorted
+      ∙ ap (map table_row) (filter-piece (λ r. r.vertex.symbol.loc == loc) (rows_at count rows) loc (range_with_len 0 locations)
+      (λ k r i. ap (λ n. n == loc) (in-at count rows k r i).1) (range-up 0 locations) (in_range locations loc lt))
+
+  switch-rules : (loc : ℕ) → loc < locations → rules_by loc (rows_at count rows loc) (entries_at entries loc) ≡ rules_at net plan loc
+  switch-rules loc lt = ap₂ (λ a b. a ++ (b ++ last_rule loc ∷ []))
+      (sym (ap (flat_map rules_of_row) (rows-part loc lt) ∙ pieces-map rules_of_row table_row (rows_at count rows loc)))
+      (sym (ap (map cell_rule) (filter-map (λ e. e.pair.link.to == loc) entry_of entries) ∙ map-map cell_rule entry_of (entries_at entries loc)))
+
+  located : (is_kind : Option LocationKind → Bool) (loc : ℕ) → In loc (locations_of_kind is_kind net) → loc < locations
+  located is_kind loc i = below (in_filter (λ loc. is_kind (kind_of net loc)) (range_with_len 0 locations) loc i).0
+    where
+      below : In loc (range_with_len 0 locations) → loc < locations
+      below j = let m = in-range 0 locations j in omega arith
+        where
+          in-range : (a n : ℕ) → In loc (range_with_len a n) → loc < a + n
+          in-range a zero k = absurd k
+          in-range a (suc n) (inl e) = omega (arith, e)
+          in-range a (suc n) (inr k) = let lt = in-range (a + 1) n k in omega arith
+
+  pub rules-are : all_rules_by net (rows_at count rows) (entries_at entries) ≡ table_rules net plan
+  rules-are = flat_map-same (λ loc. rules_by loc (rows_at count rows loc) (entries_at entries loc)) (rules_at net plan) (all_switches net) (λ loc i. switch-rules loc (located is_switch_kind loc i))
+
+  abbrev at_middlebox : ℕ → Bool
+  at_middlebox loc = is_middlebox_kind (kind_of net loc)
+
+  pub processes-are : all_processes_by net (rows_at count rows) ≡ table_processes net plan
+  processes-are = sym (
+      ap (map process_of) (filter-map (λ row. at_middlebox (loc_of row.vertex)) table_row sorted)
+      ∙ map-map process_of table_row (filter (λ r. at_middlebox (loc_in r)) sorted)
+      ∙ ap (map (λ r. process_of (table_row r))) (filter-pieces (λ r. at_middlebox (loc_in r)) (rows_at count rows) at_middlebox (range_with_len 0 locations) (λ k r i. ap at_middlebox (in-at count rows k r i).1))
+      ∙ map-pieces (λ r. process_of (table_row r)) (rows_at count rows) (filter at_middlebox (range_with_len 0 locations)))
+
+  pub tables-are : (rules : List Rule) (processes : List Process) → rules ≡ all_rules_by net (rows_at count rows) (entries_at entries) → processes ≡ all_processes_by net (rows_at count rows) → AreTablesOf net of cells rules processes
+  tables-are rules processes er ep = record {
+    plan = plan;
+    plan_is = plan-is;
+    in_order = in-order;
+    rules_are = er ∙ rules-are;
+    processes_are = ep ∙ processes-are;
+  }

@@ -1,6 +1,8 @@
+pub mod Leading
 pub mod Spreading
 pub mod Sorting
-pub mod Leading
+pub mod Searching
+pub mod Going
 pub mod Following
 pub mod Spotting
 pub mod Ordered

@@ -4,7 +4,7 @@ use Rattle.std.specs.Bool.{⊤}
 use Rattle.std.specs.List.{AllByRecursion, AllZip, flat_map, range_with_len}
 use Rattle.std.proofs.lemmas.Bool.{eqb-true, eq-eqb}
 use Rattle.std.proofs.lemmas.List.{map-append}
-use Rattle.std.proofs.lemmas.Option.{slice_get_within, slice_get_cases}
+use Rattle.std.proofs.lemmas.Option.{slice_get_within}
 use Rattle.merlin_model.specs.declared.network.LocationKind.{LocationKind}
 use Rattle.merlin_model.specs.Networks.{Network, IsHost, IsNetwork, kind_of, Pairwise, places_of}
 use Rattle.merlin_model.specs.Words.{IsSymbol}
@@ -58,6 +58,14 @@ pieces-map f g (x ∷ xs) = ap (λ ys. f (g x) ++ ys) (pieces-map f g xs)
 map-pieces : {X A B : Type 0} (g : A → B) (f : X → List A) (xs : List X) → map g (flat_map f xs) ≡ flat_map (λ x. map g (f x)) xs
 map-pieces g f [] = refl
 map-pieces g f (x ∷ xs) = map-append g (f x) (flat_map f xs) ∙ ap (λ ys. map g (f x) ++ ys) (map-pieces g f xs)
+
+-- past the end of one list, and of another that is as long
+pub none-both : {X Y : Type 0} (xs : List X) (ys : List Y) → length xs ≡ length ys → (i : ℕ) → slice_get xs i ≡ None → slice_get ys i ≡ None
+none-both [] [] e i n = refl
+none-both [] (y ∷ ys) e i n = let no_way : ⊥ = omega (arith, e) in absurd no_way
+none-both (x ∷ xs) [] e i n = refl
+none-both (x ∷ xs) (y ∷ ys) e zero n = absurd (none-some (sym n))
+none-both (x ∷ xs) (y ∷ ys) e (suc i) n = none-both xs ys (let s : length xs ≡ length ys = omega (arith, e) in s) i n
 
 -- the places of a list whose elements all differ
 place-one : {X : Type 0} (R : X → X → Type 0) → ((x : X) → ¬ R x x) → (xs : List X) → Pairwise R xs → (i j : ℕ) (x : X) → slice_get xs i ≡ Some x → slice_get xs j ≡ Some x → i ≡ j
@@ -185,15 +193,7 @@ module _ (net : Network) (of : List Group) (cells : ℕ → ℕ → List (Cell �
     where
       by : (o : Option GroupBranches) → slice_get branches g ≡ o → ⊥
       by (Some group) here = (groups_at g group here).queue_above ((groups_at g group here).queue ∙ e)
-      by None here = none-some (sym (ap queue_at (gone (slice_get_cases branches g).1)) ∙ e)
-        where
-          gone : _ → slice_get of g ≡ None
-          gone (inl h) = absurd (none-some (sym here ∙ h.2.1))
-          gone (inr h) = past (slice_get_cases of g).1
-            where
-              past : _ → slice_get of g ≡ None
-              past (inl k) = let size = prepared.branches_are.size in let le = h.0 in let lt = k.1 in let no_way : ⊥ = omega arith in absurd no_way
-              past (inr k) = k.1
+      by None here = none-some (sym (ap queue_at (none-both branches of prepared.branches_are.size g here)) ∙ e)
 
   rows-are : (row : TableRow) → Contains plan.rows row → IsTableRow net of plan row
   rows-are row c =
@@ -204,19 +204,8 @@ module _ (net : Network) (of : List Group) (cells : ℕ → ℕ → List (Cell �
   each-row : (g d : ℕ) (v : Vertex) (us : List Vertex) → Follows net of g d v us → (¬ IsHost net (loc_of v)) → (row : TableRow) × Contains plan.rows row × (row.group ≡ g) × (row.dest ≡ d) × (row.vertex ≡ v)
   each-row g d v us h outside = by (slice_get branches g) refl
     where
-      there : slice_get of g ≡ None → ⊥
-      there none = subst (λ o. FollowsAt net o d v us) none h
-
       by : (o : Option GroupBranches) → slice_get branches g ≡ o → (row : TableRow) × Contains plan.rows row × (row.group ≡ g) × (row.dest ≡ d) × (row.vertex ≡ v)
-      by None here = absurd (there (gone (slice_get_cases of g).1))
-        where
-          gone : _ → slice_get of g ≡ None
-          gone (inr k) = k.1
-          gone (inl k) = inside (slice_get_cases branches g).1
-            where
-              inside : _ → slice_get of g ≡ None
-              inside (inl b) = absurd (none-some (sym here ∙ b.2.1))
-              inside (inr b) = let size = prepared.branches_are.size in let le = b.0 in let lt = k.1 in let no_way : ⊥ = omega arith in absurd no_way
+      by None here = absurd (subst (λ o. FollowsAt net o d v us) (none-both branches of prepared.branches_are.size g here) h)
       by (Some group) here =
           (table_row row, in_to plan.rows (table_row row) (map_in table_row sorted row (sorted-in count rows locations row m.1 tag loc)), is.group, is.dest ∙ found.2, is.vertex)
         where

@@ -88,10 +88,7 @@ fn attached_host(net: &Topology, loc: usize) -> Option<AttachedHost>
 }
 
 /// The hosts by their locations.
-fn attached_hosts(
-    alloc: Global,
-    net: &Topology,
-) -> Result<Vec<Option<AttachedHost>>, OutOfMemory>
+fn attached_hosts(alloc: Global, net: &Topology) -> Result<Vec<Option<AttachedHost>>, OutOfMemory>
     ensures { IfOk result (λ hosts. hosts.items ≡
         map (attached_host_at net.now) (range_with_len 0 (length net.now.locations))) }
 {

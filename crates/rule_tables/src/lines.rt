@@ -79,11 +79,7 @@ fn back_rule(alloc: Global, row: &Row) -> Result<Rule, OutOfMemory>
 }
 
 /// Adds the rules of a row: the tag rule, after the back rule where the next location is no host.
-pub(crate) fn add_row(
-    alloc: Global,
-    row: &Row,
-    rules: &mut Items<Rule>,
-) -> Result<(), OutOfMemory>
+pub(crate) fn add_row(alloc: Global, row: &Row, rules: &mut Items<Rule>) -> Result<(), OutOfMemory>
     ensures { OnOk result (rules.new ≡ rules.old ++ rules_of_row (table_row row.now)) }
 {
     if row.hop.tag.is_some() {

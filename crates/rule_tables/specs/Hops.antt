@@ -1,5 +1,5 @@
 -- How frames leave the locations of vertices, by the places of vertices.
-use Rattle.std.specs.Prelude.{ℕ, ◌≡◌, ◌==◌, ◌++◌, ⊤, Bool, false, List, length, map, Option, None, Some, slice_get, Contains}
+use Rattle.std.specs.Prelude.{ℕ, ◌≡◌, ◌==◌, ◌++◌, ⊤, Bool, false, List, [], length, map, Option, None, Some, slice_get, Contains}
 use Rattle.merlin_model.specs.Networks.{Network, AreLinked}
 use Rattle.merlin_model.specs.Words.{functions_of}
 use Rattle.rules_model.specs.Products.{Vertex, loc_of}
@@ -14,6 +14,11 @@ abbrev pub stands_at : Option Vertex → ℕ → Bool
 stands_at None loc = false
 stands_at (Some v) loc = loc_of v == loc
 
+-- the function of a vertex
+abbrev pub functions_in : Option Vertex → List ℕ
+functions_in None = []
+functions_in (Some v) = functions_of v.symbol
+
 -- the place is that of the onward vertex; none is the end
 abbrev pub IsOnwardPlace : List Step → Option (Vertex × List Vertex) → Option ℕ → Type 0
 IsOnwardPlace steps None None = ⊤
@@ -22,9 +27,8 @@ IsOnwardPlace steps (Some next) None = ⊥
 IsOnwardPlace steps (Some next) (Some k) = vertex_at steps k ≡ Some next.0
 
 -- what runs at the location of vertex v, which us follow, and where the frame goes on
-abbrev pub IsOnward : List Step → Vertex → List Vertex → Option Onward → Type 0
-IsOnward steps v us None = ⊥
-IsOnward steps v us (Some o) =
+abbrev pub IsOnward : List Step → Vertex → List Vertex → Onward → Type 0
+IsOnward steps v us o =
     (o.functions ≡ functions_of v.symbol ++ functions_here (loc_of v) us)
     × IsOnwardPlace steps (onward (loc_of v) us) o.next
 

@@ -1,13 +1,14 @@
 //! How frames leave the locations of vertices.
 
-ghost use Rattle.std.specs.Prelude.{◌≡◌, ◌<◌, ◌^◌, ◌==◌, ◌&&◌, ◌++◌, [], ◌∷◌, List, Option, Some};
-ghost use Rattle.std.specs.Prelude.{length, map, find, option_to_list, IfOk, OnOk};
+ghost use Rattle.std.specs.Prelude.{ℕ, ◌≡◌, ◌<◌, ◌^◌, ◌==◌, ◌&&◌, ◌++◌, true, false};
+ghost use Rattle.std.specs.Prelude.{[], ◌∷◌, List, Option, Some, length, map, find};
+ghost use Rattle.std.specs.Prelude.{IfOk, OnOk, IfSome, IfNone};
 ghost use Rattle.merlin_model.specs.Networks.{Pairwise, from_a, from_b, directed_links};
 ghost use Rattle.rules_model.specs.Products.{Vertex as PathVertex};
 ghost use Rattle.rules_model.specs.Tables.{IsBelowKey, tag_key_of};
 ghost use Rattle.product_graph.specs.Products.{vertex_of};
-ghost use Rattle.rule_tables.specs.Branches.{key_of, vertex_at, LeadsOn};
-ghost use Rattle.rule_tables.specs.Hops.{stands_at, IsOnward, IsOnwardPlace, IsTagged, IsGoingOn};
+ghost use Rattle.rule_tables.specs.Branches.{key_of, vertex_at, next_at, LeadsOn};
+ghost use Rattle.rule_tables.specs.Hops.{stands_at, functions_in, IsOnward, IsOnwardPlace, IsTagged, IsGoingOn};
 ghost use Rattle.rule_tables.specs.Hops.{CanHop, IsHopMade};
 
 use crate::branches::{Branch, Step, TagKey};
@@ -45,41 +46,71 @@ fn is_at(steps: &[Step], place: usize, loc: usize) -> bool
     }
 }
 
-/// Adds a function, if there is one.
-fn add_function(functions: &mut Items<usize>, fun: Option<usize>) -> Result<(), OutOfMemory>
-    ensures { OnOk result (functions.new ≡ functions.old ++ option_to_list fun) }
+/// The place that follows a place, if its vertex is at the location.
+fn next_here(steps: &[Step], place: usize, loc: usize) -> Option<usize>
+    ensures some { IfSome result (λ n. (next_at steps.now place ≡ Some (Some n))
+        × (stands_at (vertex_at steps.now n) loc ≡ true)) }
+    ensures none { IfNone result ((n : ℕ) → next_at steps.now place ≡ Some (Some n) →
+        stands_at (vertex_at steps.now n) loc ≡ false) }
 {
-    if let Some(fun) = fun {
-        functions.push(fun)?;
+    let step = steps.get(place)?;
+    let next = step.next?;
+    if is_at(steps, next, loc) {
+        Some(next)
+    } else {
+        None
+    }
+}
+
+/// The place that follows a place. None is the end.
+fn next_of(steps: &[Step], place: usize) -> Option<usize>
+    ensures { (next : Option ℕ) → next_at steps.now place ≡ Some next → result ≡ next }
+{
+    let step = steps.get(place)?;
+    step.next
+}
+
+/// Adds the function of the vertex at a place, if it has one.
+fn add_function(
+    functions: &mut Items<usize>,
+    steps: &[Step],
+    place: usize,
+) -> Result<(), OutOfMemory>
+    ensures { OnOk result
+        (functions.new ≡ functions.old ++ functions_in (vertex_at steps.now place)) }
+{
+    if let Some(step) = steps.get(place) {
+        if let Some(fun) = step.vertex.symbol.fun {
+            functions.push(fun)?;
+        }
     }
     Ok(())
 }
 
 /// What runs at a location from the vertex at a place on, up to the first vertex at another location.
-/// None where the places lead round in a circle or out of the list.
 fn onward_from(
     alloc: Global,
     steps: &[Step],
     start: usize,
     loc: usize,
-) -> Result<Option<Onward>, OutOfMemory>
+) -> Result<Onward, OutOfMemory>
     ensures { (v : PathVertex) (us : List PathVertex) → vertex_at steps.now start ≡ Some v →
         LeadsOn steps.now start us → v.symbol.loc ≡ loc →
         IfOk result (IsOnward steps.now v us) }
 {
     let mut functions = Items::new(alloc);
     let mut place = start;
-    for _ in 0..steps.len() {
-        let Some(step) = steps.get(place) else {
-            return Ok(None);
+    for _step in 0..steps.len() {
+        add_function(&mut functions, steps, place)?;
+        let Some(next) = next_here(steps, place, loc) else {
+            break;
         };
-        add_function(&mut functions, step.vertex.symbol.fun)?;
-        match step.next {
-            Some(next) if is_at(steps, next, loc) => place = next,
-            next => return Ok(Some(Onward { functions, next })),
-        }
+        place = next;
     }
-    Ok(None)
+    Ok(Onward {
+        functions,
+        next: next_of(steps, place),
+    })
 }
 
 /// A link as it is taken from one location to another, if it joins them.
@@ -178,10 +209,7 @@ pub(crate) fn hop_from(
         return Ok(None);
     };
     let loc = step.vertex.symbol.loc;
-    let Some(Onward { functions, next }) = onward_from(alloc, branch.steps.as_slice(), place, loc)?
-    else {
-        return Ok(None);
-    };
+    let Onward { functions, next } = onward_from(alloc, branch.steps.as_slice(), place, loc)?;
     let Some((to, tag)) = going_on(tags, group, branch, next) else {
         return Ok(None);
     };

@@ -1,5 +1,5 @@
 use Rattle.rule_tables.proofs.Going.{AreGoing}
 use Rattle.rule_tables.proofs.hops.onward_from.Given as goal
 
-abbrev pub invariant-loop-1 : goal.invariant-loop-1
-invariant-loop-1 l = AreGoing l.steps l.start l.loc l.place l.index l.functions
+abbrev pub invariant-loop-step : goal.invariant-loop-step
+invariant-loop-step l = AreGoing l.steps l.start l.loc l.place l._step l.functions

@@ -47,7 +47,8 @@ left-all vs i room left past sum =
     let same : sum_by (listed_entries vs) (take i vs) ≡ sum_by (listed_entries vs) vs = ap (sum_by (listed_entries vs)) (taken vs i past) in omega (arith, whole, same, sum)
   where
     taken : (xs : List ListedVertex) (n : ℕ) → length xs ≤ n → take n xs ≡ xs
-    taken [] n le = refl
+    taken [] zero le = refl
+    taken [] (suc n) le = refl
     taken (x ∷ xs) zero le = absurd (omega (arith, le))
     taken (x ∷ xs) (suc n) le = ap (λ r. x ∷ r) (taken xs n (omega (arith, le)))
 
@@ -77,21 +78,22 @@ length-set (y ∷ xs) zero x = refl
 length-set (y ∷ xs) (suc i) x = ap suc (length-set xs i x)
 
 -- whether a vertex is counted at a location
-counted : ℕ → ListedVertex → Bool
+abbrev counted : ℕ → ListedVertex → Bool
 counted loc u = (u.symbol.loc == loc) && is_some u.symbol.fun
 
 pub counted-few : (vs : List ListedVertex) (i loc : ℕ) → i ≤ length vs → functions_at (take i vs) loc ≤ i
 counted-few vs i loc le = let few = count_by-le-length (counted loc) (take i vs) in let long = length-taken vs i in omega (arith, few, long)
   where
     length-taken : (xs : List ListedVertex) (n : ℕ) → length (take n xs) ≤ n
-    length-taken [] n = omega arith
+    length-taken [] zero = omega arith
+    length-taken [] (suc n) = omega arith
     length-taken (x ∷ xs) zero = omega arith
     length-taken (x ∷ xs) (suc n) = let rest = length-taken xs n in omega (arith, rest)
 
 pub counts-none : (vs : List ListedVertex) (locations : ℕ) → CountsFunctions (take 0 vs) locations (replicate locations 0)
 counts-none vs locations = record { size = long locations; each = λ loc lt. at_zero locations loc ∙ sym (none vs loc) }
   where
-    long : (n : ℕ) → length (replicate n 0) ≡ n
+    long : (n : ℕ) → length {A = ℕ} (replicate n 0) ≡ n
     long zero = refl
     long (suc n) = ap suc (long n)
 

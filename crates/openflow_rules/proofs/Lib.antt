@@ -10,3 +10,4 @@ mod Keys
 mod Sinking
 mod Limits
 mod Branching
+mod Steps

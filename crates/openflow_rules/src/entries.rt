@@ -1,7 +1,8 @@
 //! The vertices of a product that tables have entries for, and how many entries they make: one each, and one more for each
 //! vertex with a function at the same location.
 
-ghost use Rattle.std.specs.Prelude.{◌≡◌, ◌<◌, ◌+◌, ◌^◌, length, map, filter, is_some, slice_set, IfOk, MatchOption, if◌then◌else◌};
+ghost use Rattle.std.specs.Prelude.{◌≡◌, ◌<◌, ◌+◌, ◌^◌, ◌++◌, ◌∷◌, [], length, map, filter};
+ghost use Rattle.std.specs.Prelude.{is_some, slice_set, IfOk, OnOk, MatchOption, if◌then◌else◌};
 ghost use Rattle.std.specs.List.{slice_index_or};
 ghost use Rattle.product_graph.specs.Products.{vertex_of};
 ghost use Rattle.openflow_rules.specs.Planning.{entries_in};
@@ -12,6 +13,21 @@ use product_graph::Vertex;
 use sqlite_items::Items;
 use std::alloc::Global;
 use topology::Topology;
+
+/// Adds the vertex, if it is at no host.
+fn add_if_inner(
+    net: &Topology,
+    vertex: Vertex,
+    inner: &mut Items<Vertex>,
+) -> Result<(), OutOfMemory>
+    requires { vertex.symbol.loc < length net.now.locations }
+    ensures { OnOk result (inner.new ≡ inner.old ++ filter (is_inner net.now) (vertex ∷ [])) }
+{
+    if net.host(vertex.symbol.loc).is_none() {
+        inner.push(vertex)?;
+    }
+    Ok(())
+}
 
 /// The vertices that are at no host.
 pub fn inner_vertices(
@@ -24,9 +40,7 @@ pub fn inner_vertices(
 {
     let mut inner = Items::new(alloc);
     for vertex in vertices {
-        if net.host(vertex.symbol.loc).is_none() {
-            inner.push(*vertex)?;
-        }
+        add_if_inner(net, *vertex, &mut inner)?;
     }
     Ok(inner)
 }

@@ -1,9 +1,10 @@
 //! The products of the groups of a policy: a guaranteed statement has that of its ends, every other group those of all
 //! destinations.
 
-ghost use Rattle.std.specs.Prelude.{◌≡◌, ◌++◌, ◌==◌, map, filter, find, IfOk, OnOk};
+ghost use Rattle.std.specs.Prelude.{◌≡◌, ◌<◌, ◌++◌, ◌∷◌, ◌==◌, [], length, map, filter, find};
+ghost use Rattle.std.specs.Prelude.{IfOk, OnOk};
 ghost use Rattle.merlin_model.specs.Networks.{kind_of};
-ghost use Rattle.rules_model.specs.Tables.{all_hosts};
+ghost use Rattle.rules_model.specs.Tables.{all_hosts, is_host_kind};
 ghost use Rattle.openflow_rules.specs.GroupSpans.{span_to, spans_by, spans_over};
 
 use merlin_model::OutOfMemory;
@@ -22,15 +23,25 @@ pub struct GroupSpan {
     pub span: Span2,
 }
 
+/// Adds the location, if a host is there.
+fn add_if_host(net: &Topology, loc: usize, hosts: &mut Items<usize>) -> Result<(), OutOfMemory>
+    requires { loc < length net.now.locations }
+    ensures { OnOk result (hosts.new ≡ hosts.old ++
+        filter (λ l. is_host_kind (kind_of net.now l)) (loc ∷ [])) }
+{
+    if net.host(loc).is_some() {
+        hosts.push(loc)?;
+    }
+    Ok(())
+}
+
 /// The locations of all hosts, in order.
 pub fn host_locations(alloc: Global, net: &Topology) -> Result<Items<usize>, OutOfMemory>
     ensures { IfOk result (λ hosts. hosts ≡ all_hosts net.now) }
 {
     let mut hosts = Items::new(alloc);
     for loc in 0..net.locations() {
-        if net.host(loc).is_some() {
-            hosts.push(loc)?;
-        }
+        add_if_host(net, loc, &mut hosts)?;
     }
     Ok(hosts)
 }

@@ -71,11 +71,9 @@ impl TagSet {
     pub fn into_items(self, alloc: Global) -> Result<Items<TagKey>, OutOfMemory>
         ensures { IfOk result (λ keys. map key_of keys ≡ self) }
     {
-        let mut keys = Items::new(alloc);
-        for key in self.keys.iter() {
-            keys.push(*key)?;
-        }
-        Ok(keys)
+        let TagSet { keys } = self;
+        let keys: Vec<TagKey> = keys.into_iter().collect(alloc)?;
+        Ok(Items::from_vec(keys))
     }
 }
 

@@ -1,9 +1,0 @@
-pub mod Leading
-pub mod Spreading
-pub mod Sorting
-pub mod Searching
-pub mod Going
-pub mod Following
-pub mod Spotting
-pub mod Ordered
-pub mod Planned

@@ -2,13 +2,7 @@
 #![tactic(auto)]
 
 mod branches;
-mod buckets;
-mod entries;
-mod hops;
-mod lines;
-mod rows;
 mod tables;
-mod tags;
 
 pub use branches::{Branch, GroupBranches, OwnedCell, Step, TagKey};
 pub use merlin_model::OutOfMemory;

@@ -1,0 +1,16 @@
+use Rattle.std.proofs.Common.{◌⊎◌, ◌≡◌, ◌<◌, List, length, Contains, refl, arith}
+use Rattle.rules_model.specs.Tables.{TagKey as ModelKey, tag_key_of}
+use Rattle.product_graph.specs.Products.{vertex_of}
+use Rattle.product_graph.proofs.Lists.{all-contained}
+use Rattle.openflow_rules.proofs.tags.put_tag.Goals as goal
+
+pub returns-then-len-gt-MAX_TAGS-clause-err : goal.returns-then-len-gt-MAX_TAGS-clause-err
+returns-then-len-gt-MAX_TAGS-clause-err c = (
+  record {
+    keys = c.put.new.self;
+    ascend = c.len.ensures.ascend;
+    each = all-contained _ c.put.new.self (λ k here. (c.in_ok-put.ensures k).0 here);
+    many = ?;
+  },
+  refl,
+)

@@ -147,3 +147,8 @@ module _ (net : Network) (groups : List Group) where
   gathered-wider spans rest s g h k (inr t) =
       let same : t.span ≡ s = contains-one s t.span t.among in
       record { span = t.span; among = in_to (spans ++ s ∷ rest) t.span (in_append-right spans (s ∷ rest) t.span (inl same)); vertex = t.vertex; outside = t.outside; stands = t.stands; is = t.is }
+
+  -- the tags that were there, and those of one more product
+  pub of-inner-or : (s : GroupSpan) (vs : List Vertex) → AreInnerOf net groups s vs → (old : List ModelKey) (k : ModelKey) → Contains old k ⊎ IsTagOfVertex s.group vs k → Contains old k ⊎ IsTagIn net groups (s ∷ []) k
+  of-inner-or s vs are old k (inl c) = inl c
+  of-inner-or s vs are old k (inr t) = inr (of-inner s vs are k t)

@@ -91,16 +91,16 @@ counted-few vs i loc le = let few = count_by-le-length (counted loc) (take i vs)
     length-taken (x ∷ xs) (suc n) = let rest = length-taken xs n in omega (arith, rest)
 
 pub counts-none : (vs : List ListedVertex) (locations : ℕ) → CountsFunctions (take 0 vs) locations (replicate locations 0)
-counts-none vs locations = record { size = long locations; each = λ loc lt. at_zero locations loc ∙ sym (none vs loc) }
+counts-none vs locations = record { size = long 0 locations; each = λ loc lt. at_zero 0 locations loc ∙ sym (none vs loc) }
   where
-    long : (n : ℕ) → length {A = ℕ} (replicate n 0) ≡ n
-    long zero = refl
-    long (suc n) = ap suc (long n)
+    long : (z n : ℕ) → length (replicate n z) ≡ n
+    long z zero = refl
+    long z (suc n) = ap suc (long z n)
 
-    at_zero : (n k : ℕ) → slice_index_or (replicate n 0) k 0 ≡ 0
-    at_zero zero k = refl
-    at_zero (suc n) zero = refl
-    at_zero (suc n) (suc k) = at_zero n k
+    at_zero : (z n k : ℕ) → slice_index_or (replicate n z) k z ≡ z
+    at_zero z zero k = refl
+    at_zero z (suc n) zero = refl
+    at_zero z (suc n) (suc k) = at_zero z n k
 
     none : (xs : List ListedVertex) (loc : ℕ) → functions_at (take 0 xs) loc ≡ 0
     none [] loc = refl

@@ -73,14 +73,14 @@ key-less a b e = by (then-less (nat_cmp a.group b.group) (ordering_then (nat_cmp
     by (inl l) = inl (nat-less a.group b.group l)
     by (inr h) = inr (nat-equal a.group b.group h.0, inner (then-less (nat_cmp a.state b.state) (option_cmp nat_cmp a.fun b.fun) h.1))
 
+abbrev made : ℕ → ℕ → Option ℕ → TagKey
+made g s f = record { group = g; state = s; fun = f }
+
 key-equal : (a b : TagKey) → key_cmp a b ≡ Equal → a ≡ b
 key-equal a b e =
     let one = then-equal (nat_cmp a.group b.group) (ordering_then (nat_cmp a.state b.state) (option_cmp nat_cmp a.fun b.fun)) e in
     let two = then-equal (nat_cmp a.state b.state) (option_cmp nat_cmp a.fun b.fun) one.1 in
-    same a.group b.group a.state b.state a.fun b.fun (nat-equal a.group b.group one.0) (nat-equal a.state b.state two.0) (place-equal a.fun b.fun two.1)
-  where
-    same : (g h s t : ℕ) (f k : Option ℕ) → g ≡ h → s ≡ t → f ≡ k → (record { group = g; state = s; fun = f } : TagKey) ≡ (record { group = h; state = t; fun = k } : TagKey)
-    same g h s t f k eg es ef = cc
+    ap (λ g. made g a.state a.fun) (nat-equal a.group b.group one.0) ∙ ap (λ s. made b.group s a.fun) (nat-equal a.state b.state two.0) ∙ ap (made b.group b.state) (place-equal a.fun b.fun two.1)
 
 -- what is put is there, and all else stays
 inserted : (ks : List TagKey) (k x : TagKey) → In x (insert_key key_cmp ks k) → In x ks ⊎ (x ≡ k)

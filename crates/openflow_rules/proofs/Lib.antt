@@ -11,3 +11,4 @@ mod Sinking
 mod Limits
 mod Branching
 mod Steps
+mod Rooms

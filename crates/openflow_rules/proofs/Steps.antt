@@ -62,9 +62,9 @@ flat-append : {X Y : Type 0} (f : X → List Y) (xs ys : List X) → flat_map f 
 flat-append f [] ys = refl
 flat-append f (x ∷ xs) ys = ap (λ r. f x ++ r) (flat-append f xs ys) ∙ sym (through (f x) (flat_map f xs) (flat_map f ys))
   where
-    through : {Y : Type 0} (as bs cs : List Y) → (as ++ bs) ++ cs ≡ as ++ (bs ++ cs)
-    through [] bs cs = refl
-    through (a ∷ as) bs cs = ap (λ r. a ∷ r) (through as bs cs)
+    through : {Y : Type 0} (ps qs rs : List Y) → (ps ++ qs) ++ rs ≡ ps ++ (qs ++ rs)
+    through [] qs rs = refl
+    through (p ∷ ps) qs rs = ap (λ r. p ∷ r) (through ps qs rs)
 
 append-none : {X : Type 0} (xs : List X) → xs ++ [] ≡ xs
 append-none [] = refl

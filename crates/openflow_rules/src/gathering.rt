@@ -164,7 +164,8 @@ fn add_product(
             IsTagIn site.now.net.now groups (span ∷ []) k)) }
 {
     let taken = taken_at(alloc, site, span)?;
-    add_taken(alloc, site.net, gathered, span.group, taken)
+    add_taken(alloc, site.net, gathered, span.group, taken)?;
+    Ok(())
 }
 
 /// What all these products come to, unless their tags are too many.

@@ -56,7 +56,8 @@ fn gather_groups(
         followers: &followers,
         checked,
     };
-    gather(alloc, &site, spans.as_slice())
+    let gathered = gather(alloc, &site, spans.as_slice())?;
+    Ok(gathered)
 }
 
 /// Asks that there is room for all entries.
@@ -85,7 +86,8 @@ fn ask_rest(
     ensures err { IfErr result (IsRestFault net.now checked.now.policy room) }
 {
     ask_cells(alloc, net, checked, hosts)?;
-    ask_entries(room)
+    ask_entries(room)?;
+    Ok(())
 }
 
 /// The groups of a policy with their tags, if all is within the limits: tags before cells before

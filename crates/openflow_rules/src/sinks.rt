@@ -57,9 +57,10 @@ pub fn sink_branch(alloc: Global, product: &Product, dest: usize) -> Result<Bran
     let tree = tree(alloc, product)?;
     // the end is one of the vertices
     let _ = product.edges();
-    let steps = match product.end() {
-        None => Items::new(alloc),
-        Some(end) => steps_of(alloc, product, &tree, end)?,
+    let Some(end) = product.end() else {
+        let steps = Items::new(alloc);
+        return Ok(Branch { dest, steps });
     };
+    let steps = steps_of(alloc, product, &tree, end)?;
     Ok(Branch { dest, steps })
 }

@@ -1,14 +1,14 @@
 -- The vertices of a product that are at no host are those that tags and entries count.
 use Rattle.std.proofs.Common.{◌≡◌, ◌⊎◌, ◌<◌, ◌↔◌, inl, inr, ℕ, Bool, true, false, cond, not, List, [], ◌∷◌, ◌++◌, length, map, filter, slice_get, Contains, Option, None, Some, refl, sym, ◌∙◌, ap, subst, arith}
 use Rattle.std.specs.Prelude.{is_some, IsSome, MatchOption}
-use Rattle.std.specs.List.{AllByRecursion}
+use Rattle.std.specs.List.{AllByRecursion, range_with_len}
 use Rattle.merlin_model.specs.declared.network.LocationKind.{LocationKind}
 use Rattle.merlin_model.specs.declared.policy.Symbol.{Symbol}
 use Rattle.merlin_model.specs.Networks.{Network, IsHost, Pairwise, kind_of, places_of, address_at}
 use Rattle.merlin_model.specs.Words.{at, IsSymbol}
-use Rattle.merlin_model.proofs.Members.{In, in_from, in_to}
+use Rattle.merlin_model.proofs.Members.{In, in_from, in_to, in_filter}
 use Rattle.rules_model.specs.Products.{SymbolAutomaton, Vertex, loc_of, start_of, WrittenWalk, Group, IsEdge, LeadsTo, LeadsToEnd, IsOnWayBetween, IsVertex, IsVertexAt, IsVertexIn}
-use Rattle.rules_model.specs.Tables.{is_host_kind}
+use Rattle.rules_model.specs.Tables.{is_host_kind, all_hosts}
 use Rattle.rules_model.proofs.TableRules.{is_location}
 use Rattle.product_graph.specs.declared.span.Vertex.{Vertex as ListedVertex}
 use Rattle.product_graph.specs.declared.span.Product.{Product}
@@ -20,10 +20,10 @@ use Rattle.policy_check.specs.Checked.{CheckedPolicy}
 use Rattle.openflow_rules.specs.declared.spans.GroupSpan.{GroupSpan}
 use Rattle.openflow_rules.specs.Planning.{AreInnerVertices}
 use Rattle.openflow_rules.specs.GroupSpans.{IsSpanOf, IsGroupSpan}
-use Rattle.openflow_rules.specs.Gathered.{is_inner, AreAtLocations, AreInnerOf}
+use Rattle.openflow_rules.specs.Gathered.{is_inner, AreAtLocations, AreAllBelow, AreInnerOf}
 
 -- whether a vertex is at no host
-inside : Network → Vertex → Bool
+abbrev pub inside : Network → Vertex → Bool
 inside net v = not (is_host_kind (kind_of net (loc_of v)))
 
 module _ (net : Network) where
@@ -126,11 +126,11 @@ module _ (net : Network) where
     pub inner-of : (product : Product) → IsProduct net is.group.automaton s.span product → AreInnerOf net groups s (map vertex_of (filter (is_inner net) product.vertices))
     inner-of product (inl cut) = subst (AreInnerOf net groups s) (sym (ap (λ vs. map vertex_of (filter (is_inner net) vs)) cut.vertices)) (record {
       ascend = tt;
-      are = λ v. (λ c. absurd (contains-none v c), λ h. absurd (no v (from-vertex v h.1)));
+      are = λ v. (λ c. absurd (contains-none v c), λ h. absurd (never v (from-vertex v h.1)));
     })
       where
-        no : (v : Vertex) → StandsIn net is.group.automaton s.span v → ⊥
-        no v h =
+        never : (v : Vertex) → StandsIn net is.group.automaton s.span v → ⊥
+        never v h =
             let way = leads-on is.group.automaton (dest_of s.span) (start_of is.group.automaton h.0) h.2.before v h.2.after h.2.reached h.2.leads in
             cut.none h.0 way.0 h.1 way.1
     inner-of product (inr t) = subst (AreInnerOf net groups s) (sym (inner-is is.group.automaton s.span product dest-host t)) (record {
@@ -191,3 +191,7 @@ module _ (net : Network) where
       by : (b : Bool) → AreAtLocations (length net.locations) (filter (is_inner net) vs) → AreAtLocations (length net.locations) (cond b (v ∷ filter (is_inner net) vs) (filter (is_inner net) vs))
       by true e = (h.0, e)
       by false e = e
+
+  -- hosts are at locations
+  pub hosts-below : AreAllBelow (length net.locations) (all_hosts net)
+  hosts-below = all-contained (λ k. k < length net.locations) (all_hosts net) (λ k c. host-within k (in_filter (λ loc. is_host_kind (kind_of net loc)) (range_with_len 0 (length net.locations)) k (in_from (all_hosts net) k c)).1)

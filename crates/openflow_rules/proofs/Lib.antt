@@ -12,3 +12,4 @@ mod Limits
 mod Branching
 mod Steps
 mod Rooms
+mod WalkSteps

@@ -28,7 +28,7 @@ use Rattle.openflow_rules.proofs.Spanning.{inner-of-all, tag-in, in-tag}
 module _ (net : Network) (checked : CheckedPolicy) (ends : List Ends) where
   module _ (automata : HasAutomata (network_symbols net) checked) (all : AreAllEnds net checked.policy ends) (leaders group_of : List ℕ) (grouped : AreGrouped checked.policy leaders group_of) where
     -- the groups, before walks are chosen
-    pub bare_groups : List Group
+    abbrev pub bare_groups : List Group
     bare_groups = map (planned net checked ends) leaders
 
     plan-of : ArePlanned net checked ends bare_groups

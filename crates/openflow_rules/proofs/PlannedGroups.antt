@@ -23,7 +23,7 @@ use Rattle.configuration_model.proofs.Lists.{find-in}
 use Rattle.openflow_rules.specs.Planning.{statement_automata, bare_walks, ArePlanned}
 use Rattle.openflow_rules.specs.GroupSpans.{ends_for, bare_walk, group_by}
 
-no_table : AutomatonTables
+abbrev pub no_table : AutomatonTables
 no_table = record { steps = []; width = 0; accepting = []; living = [] }
 
 -- the group that a statement stands for
@@ -44,30 +44,30 @@ zip-map R f (x ∷ xs) h = (h.0, zip-map R f xs h.1)
 
 -- the ends that are found for a statement are those that stand for it
 module _ (j : ℕ) where
-  is_for : Ends → Bool
+  abbrev pub is_for : Ends → Bool
   is_for e = e.statement == j
 
-  yes : (e : Ends) → e.statement ≡ j → is_for e ≡ true
-  yes e is = grind arith
+  for-it : (e : Ends) → e.statement ≡ j → is_for e ≡ true
+  for-it e is = grind arith
 
-  no : (e x : Ends) → e.statement ≡ j → x.statement < e.statement → is_for x ≡ false
-  no e x is lt = grind arith
+  not-for : (e x : Ends) → e.statement ≡ j → x.statement < e.statement → is_for x ≡ false
+  not-for e x is lt = grind arith
 
   is-j : (e : Ends) → is_for e ≡ true → e.statement ≡ j
   is-j e is = grind arith
 
   pub found-at : (ends : List Ends) (k : ℕ) (e : Ends) → Pairwise (λ a b. a.statement < b.statement) ends → slice_get ends k ≡ Some e → e.statement ≡ j → find is_for ends ≡ Some e
   found-at [] k e up at_k is = absurd (none-some at_k)
-  found-at (x ∷ ends) zero e up at_k is = ap (λ b. cond b (Some x) (find is_for ends)) (yes x (ap (λ a. a.statement) (some-same at_k) ∙ is)) ∙ at_k
+  found-at (x ∷ ends) zero e up at_k is = ap (λ b. cond b (Some x) (find is_for ends)) (for-it x (ap (λ a. a.statement) (some-same at_k) ∙ is)) ∙ at_k
   found-at (x ∷ ends) (suc k) e up at_k is =
-      ap (λ b. cond b (Some x) (find is_for ends)) (no e x is (all_in (λ b. x.statement < b.statement) ends e up.0 (in_from ends e (get-contains ends k e at_k)))) ∙ found-at ends k e up.1 at_k is
+      ap (λ b. cond b (Some x) (find is_for ends)) (not-for e x is (all_in (λ b. x.statement < b.statement) ends e up.0 (in_from ends e (get-contains ends k e at_k)))) ∙ found-at ends k e up.1 at_k is
 
   position-at : (n : ℕ) (ends : List Ends) (k : ℕ) (e : Ends) → Pairwise (λ a b. a.statement < b.statement) ends → slice_get ends k ≡ Some e → e.statement ≡ j → position_from is_for n ends ≡ Some (n + k)
   position-at n [] k e up at_k is = absurd (none-some at_k)
   position-at n (x ∷ ends) zero e up at_k is =
-      ap (λ b. cond b (Some n) (position_from is_for (n + 1) ends)) (yes x (ap (λ a. a.statement) (some-same at_k) ∙ is)) ∙ ap Some (let s : n ≡ n + 0 = omega arith in s)
+      ap (λ b. cond b (Some n) (position_from is_for (n + 1) ends)) (for-it x (ap (λ a. a.statement) (some-same at_k) ∙ is)) ∙ ap Some (let s : n ≡ n + 0 = omega arith in s)
   position-at n (x ∷ ends) (suc k) e up at_k is =
-      ap (λ b. cond b (Some n) (position_from is_for (n + 1) ends)) (no e x is (all_in (λ b. x.statement < b.statement) ends e up.0 (in_from ends e (get-contains ends k e at_k))))
+      ap (λ b. cond b (Some n) (position_from is_for (n + 1) ends)) (not-for e x is (all_in (λ b. x.statement < b.statement) ends e up.0 (in_from ends e (get-contains ends k e at_k))))
       ∙ position-at (n + 1) ends k e up.1 at_k is ∙ ap Some (let s : (n + 1) + k ≡ n + suc k = omega arith in s)
 
   found-none : (ends : List Ends) → AllByRecursion (λ e. is_for e ≡ false) ends → find is_for ends ≡ None

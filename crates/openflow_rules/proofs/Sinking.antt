@@ -85,7 +85,7 @@ steps-next product next end n steps d step lt h vertex following = record {
 
 -- the places before the end go on as the sink tree does
 module _ (net : Network) (a : SymbolAutomaton) (d : ℕ) (product : Product) (next : ℕ → Option ℕ) (is : IsTrimmed net a (All d) product) (tree : IsSinkTree net a d product next) where
-  inside : List Vertex
+  abbrev pub inside : List Vertex
   inside = is.first ++ is.inner
 
   whole : (e : Vertex) × (vertices_of product ≡ inside ++ e ∷ [])

@@ -24,7 +24,7 @@ use Rattle.openflow_rules.specs.GroupSpans.{ends_for, bare_walk, span_to, spans_
 use Rattle.openflow_rules.specs.Gathered.{AreInnerOf, IsTagIn}
 use Rattle.openflow_rules.proofs.PlannedGroups.{planned, IsTableOf, table-of, ends-are}
 
-place_of : GroupSpan → ℕ × ℕ
+abbrev pub place_of : GroupSpan → ℕ × ℕ
 place_of s = (s.group, dest_of s.span)
 
 map-append : {X Y : Type 0} (f : X → Y) (xs ys : List X) → map f (xs ++ ys) ≡ map f xs ++ map f ys
@@ -41,16 +41,19 @@ numbered-at n [] p i = absurd i
 numbered-at n (x ∷ xs) p (inl e) = (0, ap (λ q. q.0) e ∙ (let s : n ≡ n + 0 = omega arith in s), ap Some (sym (ap (λ q. q.1) e)))
 numbered-at n (x ∷ xs) p (inr i) = let r = numbered-at (n + 1) xs p i in (suc r.0, r.1 ∙ (let s : (n + 1) + r.0 ≡ n + suc r.0 = omega arith in s), r.2)
 
+abbrev pair-of : {X : Type 0} → ℕ → X → ℕ × X
+pair-of k x = (k, x)
+
+pair-same : {X : Type 0} (m n : ℕ) (x y : X) → m ≡ n → x ≡ y → pair-of m x ≡ pair-of n y
+pair-same m n x y a b = ap (λ k. pair-of k x) a ∙ ap (pair-of n) b
+
 at-numbered : {X : Type 0} (n : ℕ) (xs : List X) (k : ℕ) (x : X) → slice_get xs k ≡ Some x → In (n + k, x) (enumerate_from n xs)
 at-numbered n [] k x e = absurd (none-some e)
-at-numbered n (y ∷ xs) zero x e = inl (pair (let s : n + 0 ≡ n = omega arith in s) (sym (some-same e)))
-  where
-    pair : (n + 0 ≡ n) → x ≡ y → (n + 0, x) ≡ (n, y)
-    pair a b = ap (λ m. (m, x)) a ∙ ap (λ z. (n, z)) b
+at-numbered n (y ∷ xs) zero x e = inl (pair-same (n + 0) n x y (let s : n + 0 ≡ n = omega arith in s) (sym (some-same e)))
 at-numbered n (y ∷ xs) (suc k) x e = inr (subst (λ m. In (m, x) (enumerate_from (n + 1) xs)) (let s : (n + 1) + k ≡ n + suc k = omega arith in s) (at-numbered (n + 1) xs k x e))
 
 module _ (net : Network) (checked : CheckedPolicy) (ends : List Ends) where
-  group-at : ℕ → Group
+  abbrev pub group-at : ℕ → Group
   group-at = planned net checked ends
 
   -- the products by their groups and destinations
@@ -74,10 +77,10 @@ module _ (net : Network) (checked : CheckedPolicy) (ends : List Ends) where
   zip-places (s ∷ spans) (v ∷ vs) groups h = (h.0, zip-places spans vs groups h.1)
 
   module _ (leaders : List ℕ) where
-    groups : List Group
+    abbrev pub groups : List Group
     groups = map group-at leaders
 
-    spans : List GroupSpan
+    abbrev pub spans : List GroupSpan
     spans = spans_over (all_hosts net) ends leaders
 
     pub inner-of-all : (vertices : List (List Vertex)) → AllZip (AreInnerOf net groups) spans vertices → AllZip (λ p vs. AreInnerVertices net groups p.0 p.1 vs) (products_of net groups) vertices

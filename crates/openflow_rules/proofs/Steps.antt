@@ -29,25 +29,25 @@ taken-filter p xs i d made lt e = ap (λ l. l ++ filter p (get_or xs i d ∷ [])
 
 -- What is found from a place on.
 
-drop-more : {X : Type 0} (xs : List X) (i : ℕ) (d : X) → i < length xs → drop i xs ≡ get_or xs i d ∷ drop (i + 1) xs
+pub drop-more : {X : Type 0} (xs : List X) (i : ℕ) (d : X) → i < length xs → drop i xs ≡ get_or xs i d ∷ drop (i + 1) xs
 drop-more [] i d lt = absurd (omega (arith, lt))
 drop-more {X} (x ∷ xs) zero d lt = by xs
   where
     by : (ys : List X) → x ∷ ys ≡ x ∷ drop 0 ys
     by [] = refl
     by (y ∷ ys) = refl
-drop-more (x ∷ xs) (suc i) d lt = drop-more xs i d (omega (arith, lt))
+drop-more (x ∷ xs) (suc i) d lt = drop-more xs i d (omega (arith, lt)) ∙ ap (λ n. get_or xs i d ∷ drop n (x ∷ xs)) (let e : suc (i + 1) ≡ suc i + 1 = omega arith in e)
 
 pub find-here : {X : Type 0} (p : X → Bool) (xs : List X) (i : ℕ) (d : X) → i < length xs → p (get_or xs i d) ≡ true → find p (drop i xs) ≡ find p xs → find p xs ≡ Some (get_or xs i d)
-find-here p xs i d lt yes e = sym e ∙ ap (find p) (drop-more xs i d lt) ∙ ap (λ b. cond b (Some (get_or xs i d)) (find p (drop (i + 1) xs))) yes
+find-here p xs i d lt passes e = sym e ∙ ap (find p) (drop-more xs i d lt) ∙ ap (λ b. cond b (Some (get_or xs i d)) (find p (drop (i + 1) xs))) passes
 
 pub find-on : {X : Type 0} (p : X → Bool) (xs : List X) (i : ℕ) (d : X) → i < length xs → p (get_or xs i d) ≡ false → find p (drop i xs) ≡ find p xs → find p (drop (i + 1) xs) ≡ find p xs
-find-on p xs i d lt no e = sym (ap (λ b. cond b (Some (get_or xs i d)) (find p (drop (i + 1) xs))) no) ∙ sym (ap (find p) (drop-more xs i d lt)) ∙ e
+find-on p xs i d lt fails e = sym (ap (λ b. cond b (Some (get_or xs i d)) (find p (drop (i + 1) xs))) fails) ∙ sym (ap (find p) (drop-more xs i d lt)) ∙ e
 
-drop-past : {X : Type 0} (xs : List X) (i : ℕ) → length xs ≤ i → drop i xs ≡ []
-drop-past [] i le = by i
+pub drop-past : {X : Type 0} (xs : List X) (i : ℕ) → length xs ≤ i → drop i xs ≡ []
+drop-past {X} [] i le = by i
   where
-    by : (i : ℕ) → drop i [] ≡ []
+    by : (i : ℕ) → drop {A = X} i [] ≡ []
     by zero = refl
     by (suc i) = refl
 drop-past (x ∷ xs) zero le = absurd (omega (arith, le))
@@ -102,7 +102,7 @@ split-at {X} (x ∷ xs) zero d lt = by xs
     by : (ys : List X) → x ∷ ys ≡ x ∷ drop 0 ys
     by [] = refl
     by (y ∷ ys) = refl
-split-at (x ∷ xs) (suc i) d lt = ap (λ r. x ∷ r) (split-at xs i d (omega (arith, lt)))
+split-at (x ∷ xs) (suc i) d lt = ap (λ r. x ∷ r) (split-at xs i d (omega (arith, lt))) ∙ ap (λ n. x ∷ (take i xs ++ get_or xs i d ∷ drop n (x ∷ xs))) (let e : suc (i + 1) ≡ suc i + 1 = omega arith in e)
 
 pub mapped-split : {X Y : Type 0} (f : X → Y) (xs : List X) (i : ℕ) (d : X) → i < length xs → map f xs ≡ map f (take i xs) ++ f (get_or xs i d) ∷ map f (drop (i + 1) xs)
 mapped-split {X} f xs i d lt = ap (map f) (split-at xs i d lt) ∙ append (take i xs) (get_or xs i d ∷ drop (i + 1) xs)

@@ -1,5 +1,5 @@
 -- Branches of written walks.
-use Rattle.std.specs.Prelude.{ℕ, suc, ◌≡◌, ◌<◌, nat_lt, List, [], ◌∷◌, length, map, Option, None, Some, if◌then◌else◌}
+use Rattle.std.specs.Prelude.{ℕ, suc, ◌≡◌, ◌<◌, ◌⊎◌, ◌++◌, nat_lt, List, [], ◌∷◌, length, map, Option, None, Some, if◌then◌else◌}
 use Rattle.merlin_model.specs.declared.policy.Symbol.{Symbol}
 use Rattle.rules_model.specs.Products.{SymbolAutomaton, Vertex}
 use Rattle.rule_tables.specs.declared.branches.Branch.{Branch}
@@ -15,6 +15,10 @@ vertices_along a q (x ∷ w) = record { symbol = x; state = a.step q x } ∷ ver
 -- the place after k, if it is one of so many
 abbrev pub place_after : ℕ → ℕ → Option ℕ
 place_after count k = if nat_lt (suc k) count then Some (suc k) else None
+
+-- all but the last, if there is a last
+abbrev pub IsBeforeLast : List Symbol → List Symbol → Type 0
+IsBeforeLast walk inner = ((walk ≡ []) × (inner ≡ [])) ⊎ ((last : Symbol) × (walk ≡ inner ++ last ∷ []))
 
 -- the vertices of a word, each with the next one
 pub record AreStepsAlong (a : SymbolAutomaton) (word : List Symbol) (steps : List Step) : Type 0 where

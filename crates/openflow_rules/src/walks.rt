@@ -4,7 +4,7 @@ ghost use Rattle.std.specs.Prelude.{◌≡◌, ◌<◌, length, Contains, IfOk};
 ghost use Rattle.std.specs.List.{AllByRecursion};
 ghost use Rattle.product_graph.specs.Products.{automaton_of};
 ghost use Rattle.path_automaton.specs.Automata.{number_in, is_same_symbol};
-ghost use Rattle.openflow_rules.specs.WalkBranches.{AreStepsAlong, IsWalkBranch};
+ghost use Rattle.openflow_rules.specs.WalkBranches.{place_after, IsBeforeLast, AreStepsAlong, IsWalkBranch};
 
 use merlin_model::OutOfMemory;
 use merlin_model::policy::Symbol;
@@ -34,6 +34,28 @@ fn number_of(symbols: &[Symbol], symbol: Symbol) -> usize
     symbols.len()
 }
 
+/// The symbols before the last one.
+fn before_last(walk: &[Symbol]) -> &[Symbol]
+    ensures { IsBeforeLast walk.now result.now }
+{
+    match walk.split_last() {
+        Some((_, inner)) => inner,
+        None => walk,
+    }
+}
+
+/// The place after this one, if it is one of so many.
+fn next_place(count: usize, place: usize) -> Option<usize>
+    requires { place < count }
+    ensures { result ≡ place_after count place }
+{
+    if place + 1 < count {
+        Some(place + 1)
+    } else {
+        None
+    }
+}
+
 /// The vertices of these symbols, each with the next one.
 fn steps_along(
     alloc: Global,
@@ -56,11 +78,7 @@ fn steps_along(
             symbol: *symbol,
             state,
         };
-        let next = if place + 1 < inner.len() {
-            Some(place + 1)
-        } else {
-            None
-        };
+        let next = next_place(inner.len(), place);
         steps.push(Step { vertex, next })?;
     }
     Ok(steps)
@@ -80,10 +98,6 @@ pub fn walk_branch(
     ensures { IfOk result
         (IsWalkBranch (automaton_of symbols.now automaton.now) walk.now dest) }
 {
-    let inner = match walk.split_last() {
-        Some((_, inner)) => inner,
-        None => walk,
-    };
-    let steps = steps_along(alloc, symbols, automaton, inner)?;
+    let steps = steps_along(alloc, symbols, automaton, before_last(walk))?;
     Ok(Branch { dest, steps })
 }

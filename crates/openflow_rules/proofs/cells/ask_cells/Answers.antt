@@ -14,17 +14,17 @@ left_after_host-requires-clause-src c = all-at (λ k. k < length c.args.net.now.
 pub left_after_host-requires-clause-few : goal.left_after_host-requires-clause-few
 left_after_host-requires-clause-few c = sum-below (λ s. sum_by (cells_of_pair c.args.net.now c.args.checked.now.policy s) c.args.hosts.now) c.args.hosts.now c.loop-src.src-index c.loop-src.left MAX_CELLS c.loop-src.invariant
 
-pub returns-in_err-left_after_host-clause-err : goal.returns-in_err-left_after_host-clause-err
-returns-in_err-left_after_host-clause-err c =
+pub returns-in_err-left-clause-err : goal.returns-in_err-left-clause-err
+returns-in_err-left-clause-err c =
     let p = err_from_is_err_and c.from_residual.result c.from_residual.ensures.1 in
     rw (p.1, p.2)
     (cell-wider _ _ _ _
       (λ full. subst (λ (hosts : List ℕ). MAX_CELLS < sum_by (λ s. sum_by (cells_of_pair c.args.net.now c.args.checked.now.policy s) hosts) hosts) c.requires.all
         (sum-passes (λ s. sum_by (cells_of_pair c.args.net.now c.args.checked.now.policy s) c.args.hosts.now) c.args.hosts.now c.loop-src.src-index c.loop-src.left MAX_CELLS c.loop-src-test.true c.loop-src.invariant full))
-      _ c.in_err-left_after_host.ensures.err)
+      _ c.in_err-left.ensures.err)
 
 pub loop-src-preserved : goal.loop-src-preserved
-loop-src-preserved c = sum-next (λ s. sum_by (cells_of_pair c.args.net.now c.args.checked.now.policy s) c.args.hosts.now) c.args.hosts.now c.loop-src.src-index c.loop-src.left _ MAX_CELLS c.loop-src-test.true c.loop-src.invariant c.in_ok-left_after_host.ensures.ok
+loop-src-preserved c = sum-next (λ s. sum_by (cells_of_pair c.args.net.now c.args.checked.now.policy s) c.args.hosts.now) c.args.hosts.now c.loop-src.src-index c.loop-src.left _ MAX_CELLS c.loop-src-test.true c.loop-src.invariant c.in_ok-left.ensures.ok
 
 pub returns-clause-ok : goal.returns-clause-ok
 returns-clause-ok c =

@@ -7,7 +7,7 @@ use Rattle.rules_model.specs.Products.{Vertex, loc_of}
 use Rattle.product_graph.specs.declared.span.Vertex.{Vertex as ListedVertex}
 use Rattle.product_graph.specs.Products.{vertex_of}
 use Rattle.openflow_rules.specs.declared.fault.TheConstants.{MAX_ENTRIES}
-use Rattle.openflow_rules.specs.Planning.{entries_of, entries_in}
+use Rattle.openflow_rules.specs.Planning.{vertex_entries, entries_in}
 use Rattle.openflow_rules.specs.Gathered.{functions_at, CountsFunctions, IsRoomAfter, IsRoomBeside}
 
 sum-mapped : {X Y : Type 0} (f : Y → ℕ) (g : X → Y) (xs : List X) → sum_by f (map g xs) ≡ sum_by (λ x. f (g x)) xs
@@ -24,8 +24,8 @@ listed_entries vs v = 1 + functions_at vs v.symbol.loc
 
 pub entries-are : (vs : List ListedVertex) → entries_in (map vertex_of vs) ≡ sum_by (listed_entries vs) vs
 entries-are vs =
-    sum-mapped (entries_of (map vertex_of vs)) vertex_of vs
-    ∙ sum-same (λ v. entries_of (map vertex_of vs) (vertex_of v)) (listed_entries vs) (λ v. ap (λ n. 1 + n) (sum-mapped (λ u. cond ((loc_of u == v.symbol.loc) && is_some u.symbol.fun) 1 0) vertex_of vs)) vs
+    sum-mapped (vertex_entries (map vertex_of vs)) vertex_of vs
+    ∙ sum-same (λ v. vertex_entries (map vertex_of vs) (vertex_of v)) (listed_entries vs) (λ v. ap (λ n. 1 + n) (sum-mapped (λ u. cond ((loc_of u == v.symbol.loc) && is_some u.symbol.fun) 1 0) vertex_of vs)) vs
 
 -- one vertex more
 pub left-next : (vs : List ListedVertex) (i : ℕ) (d : ListedVertex) (room left after functions : ℕ) → i < length vs → functions ≡ functions_at vs (get_or vs i d).symbol.loc →

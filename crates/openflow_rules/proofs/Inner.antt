@@ -20,7 +20,7 @@ use Rattle.policy_check.specs.Checked.{CheckedPolicy}
 use Rattle.openflow_rules.specs.declared.spans.GroupSpan.{GroupSpan}
 use Rattle.openflow_rules.specs.Planning.{AreInnerVertices}
 use Rattle.openflow_rules.specs.GroupSpans.{IsSpanOf, IsGroupSpan}
-use Rattle.openflow_rules.specs.Gathered.{is_inner, AreAtLocations, AreAllBelow, AreInnerOf}
+use Rattle.openflow_rules.specs.Gathered.{is_inner, AreVerticesWithin, AreAllBelow, AreInnerOf}
 
 -- whether a vertex is at no host
 abbrev pub inside : Network → Vertex → Bool
@@ -166,14 +166,14 @@ module _ (net : Network) where
   all-append [] ys h g = g
   all-append (x ∷ xs) ys h g = (h.0, all-append xs ys h.1 g)
 
-  listed-within : (vs : List ListedVertex) → AllByRecursion (λ v. loc_of v < length net.locations) (map vertex_of vs) → AreAtLocations (length net.locations) vs
+  listed-within : (vs : List ListedVertex) → AllByRecursion (λ v. loc_of v < length net.locations) (map vertex_of vs) → AreVerticesWithin (length net.locations) vs
   listed-within [] h = tt
   listed-within (v ∷ vs) h = (h.0, listed-within vs h.1)
 
-  pub within-product : (a : SymbolAutomaton) (span : Span2) → IsHost net (dest_of span) → (product : Product) → IsProduct net a span product → AreAtLocations (length net.locations) product.vertices
-  within-product a span dest product (inl cut) = subst (AreAtLocations (length net.locations)) (sym cut.vertices) tt
+  pub within-product : (a : SymbolAutomaton) (span : Span2) → IsHost net (dest_of span) → (product : Product) → IsProduct net a span product → AreVerticesWithin (length net.locations) product.vertices
+  within-product a span dest product (inl cut) = subst (AreVerticesWithin (length net.locations)) (sym cut.vertices) tt
   within-product a span dest product (inr t) = listed-within product.vertices (subst (AllByRecursion (λ v. loc_of v < length net.locations)) (sym t.vertices) (
-    all-append t.first _ (all-contained _ t.first (λ v c. stands v ((t.first_are v).0 c).1)) (
+      all-append t.first _ (all-contained _ t.first (λ v c. stands v ((t.first_are v).0 c).1)) (
       all-append t.inner _ (all-contained _ t.inner (λ v c. stands v ((t.inner_are v).0 c).1)) (host-within (dest_of span) dest, tt))))
     where
       source-host : (span : Span2) (s : ℕ) → IsSource net span s → IsHost net s
@@ -184,11 +184,11 @@ module _ (net : Network) where
       stands v h = reached-within a (start_of a h.0) h.2.before v (host-within h.0 (source-host span h.0 h.1)) h.2.reached
 
   -- a filter keeps where vertices are
-  pub within-inner : (vs : List ListedVertex) → AreAtLocations (length net.locations) vs → AreAtLocations (length net.locations) (filter (is_inner net) vs)
+  pub within-inner : (vs : List ListedVertex) → AreVerticesWithin (length net.locations) vs → AreVerticesWithin (length net.locations) (filter (is_inner net) vs)
   within-inner [] h = tt
   within-inner (v ∷ vs) h = by (is_inner net v) (within-inner vs h.1)
     where
-      by : (b : Bool) → AreAtLocations (length net.locations) (filter (is_inner net) vs) → AreAtLocations (length net.locations) (cond b (v ∷ filter (is_inner net) vs) (filter (is_inner net) vs))
+      by : (b : Bool) → AreVerticesWithin (length net.locations) (filter (is_inner net) vs) → AreVerticesWithin (length net.locations) (cond b (v ∷ filter (is_inner net) vs) (filter (is_inner net) vs))
       by true e = (h.0, e)
       by false e = e
 

@@ -87,7 +87,8 @@ module _ (net : Network) (checked : CheckedPolicy) (ends : List Ends) where
     passes-rest (TooManyTags count) e = absurd e
     passes-rest (TooManyCells count) e = (few-tags, e.0, e.1)
     passes-rest (TooManyEntries count) e = (
-      few-tags, e.0,
+      few-tags,
+      e.0,
       (h.count, record { groups = h.groups; planned = plan-with; are = h.entries }, subst (IsRoomBeside h.count) e.1 h.room),
       e.2,
     )

@@ -135,7 +135,7 @@ module _ (net : Network) (checked : CheckedPolicy) (ends : List Ends) (automata 
         best_effort = λ free. (ap (option_map bare_walk) (found-none j ends (no-ends j free)), ap (option_map suc) (position-none j 0 ends (no-ends j free)));
         guaranteed = λ k e w at_k is walk. (
           ap (option_map bare_walk) (found-at j ends k e up at_k is)
-          ∙ ap (λ x. Some (written_walk_of (planned net checked ends j).automaton e x)) (some-same (sym (get-map (λ x. at x.src ∷ at x.dst ∷ []) ends k e at_k) ∙ walk)),
+              ∙ ap (λ x. Some (written_walk_of (planned net checked ends j).automaton e x)) (some-same (sym (get-map (λ x. at x.src ∷ at x.dst ∷ []) ends k e at_k) ∙ walk)),
           ap (option_map suc) (position-at j 0 ends k e up at_k is ∙ ap Some (let s : 0 + k ≡ k = omega arith in s)),
         );
       }

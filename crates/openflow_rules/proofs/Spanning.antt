@@ -169,7 +169,7 @@ module _ (net : Network) (checked : CheckedPolicy) (ends : List Ends) where
             let the = ends-are net checked ends automata all j x e in
             made s (ap (λ y. y.group) same) (ap (λ y. y.leader) same)
             (subst (λ y. IsSpanOf net (option_map bare_walk (ends_for ends j)) y.span) (sym same)
-              (subst (λ o. IsSpanOf net (option_map bare_walk o) (Pair x.src x.dst)) (sym e) (ap is_some the.traffic.proper.source, ap is_some the.traffic.proper.destination, refl, refl)))
+            (subst (λ o. IsSpanOf net (option_map bare_walk o) (Pair x.src x.dst)) (sym e) (ap is_some the.traffic.proper.source, ap is_some the.traffic.proper.destination, refl, refl)))
 
     pub spans-ok : AllByRecursion (IsGroupSpan net checked (map group-at leaders)) (spans_over (all_hosts net) ends leaders)
     spans-ok = each (spans_over (all_hosts net) ends leaders) (λ s i. i)

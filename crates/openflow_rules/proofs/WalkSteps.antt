@@ -13,7 +13,7 @@ use Rattle.configuration_model.specs.Groups.{vertices_after}
 use Rattle.rule_tables.specs.declared.branches.Step.{Step}
 use Rattle.rule_tables.specs.declared.branches.Branch.{Branch}
 use Rattle.rule_tables.specs.Branches.{vertex_in, next_at}
-use Rattle.openflow_rules.specs.WalkBranches.{vertices_along, place_after, IsBeforeLast, AreStepsAlong, IsWalkBranch}
+use Rattle.openflow_rules.specs.WalkBranches.{vertices_on_word, place_after, IsBeforeLast, AreStepsAlong, IsWalkBranch}
 use Rattle.openflow_rules.proofs.Steps.{drop-more, drop-past}
 
 -- Numbers of symbols.
@@ -38,7 +38,7 @@ number-past symbols x n le e = let f = e ∙ ap (λ l. n + number_in l x) (drop-
 
 -- the first so many symbols are taken, up to this state
 pub record AreStepsTo (a : SymbolAutomaton) (word : List Symbol) (n state : ℕ) (steps : List Step) : Type 0 where
-  pub vertices : map vertex_in steps ++ vertices_along a state (drop n word) ≡ vertices_along a 0 word
+  pub vertices : map vertex_in steps ++ vertices_on_word a state (drop n word) ≡ vertices_on_word a 0 word
   pub size : length steps ≡ n
   pub follows : (k : ℕ) → k < n → next_at steps k ≡ Some (place_after (length word) k)
 
@@ -55,7 +55,7 @@ append-none [] = refl
 append-none (x ∷ xs) = ap (λ r. x ∷ r) (append-none xs)
 
 pub along-none : (a : SymbolAutomaton) (word : List Symbol) → AreStepsTo a word 0 0 []
-along-none a word = record { vertices = ap (vertices_along a 0) (none word); size = refl; follows = λ k lt. absurd (omega (arith, lt)) }
+along-none a word = record { vertices = ap (vertices_on_word a 0) (none word); size = refl; follows = λ k lt. absurd (omega (arith, lt)) }
   where
     none : (w : List Symbol) → drop 0 w ≡ w
     none [] = refl
@@ -65,9 +65,9 @@ pub along-next : (a : SymbolAutomaton) (word : List Symbol) (n state : ℕ) (ste
     vertex_in step ≡ record { symbol = get_or word n d; state = a.step state (get_or word n d) } → step.next ≡ place_after (length word) n → AreStepsTo a word (n + 1) (a.step state (get_or word n d)) (steps ++ step ∷ [])
 along-next a word n state steps d step lt h vertex next = record {
   vertices =
-      ap (λ l. l ++ vertices_along a (a.step state (get_or word n d)) (drop (n + 1) word)) (map-snoc steps step ∙ ap (λ v. map vertex_in steps ++ v ∷ []) vertex)
+      ap (λ l. l ++ vertices_on_word a (a.step state (get_or word n d)) (drop (n + 1) word)) (map-snoc steps step ∙ ap (λ v. map vertex_in steps ++ v ∷ []) vertex)
       ∙ through (map vertex_in steps) _ _
-      ∙ ap (λ l. map vertex_in steps ++ vertices_along a state l) (sym (drop-more word n d lt))
+      ∙ ap (λ l. map vertex_in steps ++ vertices_on_word a state l) (sym (drop-more word n d lt))
       ∙ h.vertices;
   size = length-more steps step ∙ (let s = h.size in let e : suc (length steps) ≡ n + 1 = omega (arith, s) in e);
   follows = λ k below. by k (below_or_at n k below);
@@ -84,18 +84,18 @@ along-next a word n state steps d step lt h vertex next = record {
 
 pub along-all : (a : SymbolAutomaton) (word : List Symbol) (n state : ℕ) (steps : List Step) → n ≡ length word → AreStepsTo a word n state steps → AreStepsAlong a word steps
 along-all a word n state steps all h = record {
-  vertices = sym (ap (λ l. map vertex_in steps ++ vertices_along a state l) (drop-past word n (omega (arith, all))) ∙ append-none (map vertex_in steps)) ∙ h.vertices;
+  vertices = sym (ap (λ l. map vertex_in steps ++ vertices_on_word a state l) (drop-past word n (omega (arith, all))) ∙ append-none (map vertex_in steps)) ∙ h.vertices;
   follows = λ k lt. h.follows k (omega (arith, lt, all));
 }
 
 -- The branch of a walk.
 
-after-along : (a : SymbolAutomaton) (q : ℕ) (inner : List Symbol) (last : Symbol) → vertices_after a q (inner ++ last ∷ []) ≡ vertices_along a q inner
+after-along : (a : SymbolAutomaton) (q : ℕ) (inner : List Symbol) (last : Symbol) → vertices_after a q (inner ++ last ∷ []) ≡ vertices_on_word a q inner
 after-along a q [] last = refl
 after-along a q (x ∷ []) last = refl
 after-along a q (x ∷ y ∷ inner) last = ap (λ r. record { symbol = x; state = a.step q x } ∷ r) (after-along a (a.step q x) (y ∷ inner) last)
 
-along-long : (a : SymbolAutomaton) (q : ℕ) (w : List Symbol) → length (vertices_along a q w) ≡ length w
+along-long : (a : SymbolAutomaton) (q : ℕ) (w : List Symbol) → length (vertices_on_word a q w) ≡ length w
 along-long a q [] = refl
 along-long a q (x ∷ w) = ap suc (along-long a (a.step q x) w)
 
@@ -110,8 +110,8 @@ branch-of-walk a walk inner dest branch before h same = record {
   follows = λ k lt. subst (λ n. next_at branch.steps k ≡ Some (place_after n k)) (sym long) (h.follows k (let l = long in omega (arith, lt, l)));
 }
   where
-    by : IsBeforeLast walk inner → vertices_along a 0 inner ≡ vertices_after a 0 walk
-    by (inl e) = ap (vertices_along a 0) e.1 ∙ sym (ap (vertices_after a 0) e.0)
+    by : IsBeforeLast walk inner → vertices_on_word a 0 inner ≡ vertices_after a 0 walk
+    by (inl e) = ap (vertices_on_word a 0) e.1 ∙ sym (ap (vertices_after a 0) e.0)
     by (inr e) = sym (ap (vertices_after a 0) e.1 ∙ after-along a 0 inner e.0)
 
     long : length branch.steps ≡ length inner

@@ -24,8 +24,8 @@ abbrev pub is_inner : Network → ListedVertex → Bool
 is_inner net v = not (is_host_kind (kind_of net v.symbol.loc))
 
 -- the vertices are at so many locations
-abbrev pub AreAtLocations : ℕ → List ListedVertex → Type 0
-AreAtLocations n vertices = AllByRecursion (λ v. v.symbol.loc < n) vertices
+abbrev pub AreVerticesWithin : ℕ → List ListedVertex → Type 0
+AreVerticesWithin n vertices = AllByRecursion (λ v. v.symbol.loc < n) vertices
 
 -- how many vertices with a function are at a location
 abbrev pub functions_at : List ListedVertex → ℕ → ℕ

@@ -43,11 +43,11 @@ pub record AreInnerVertices (net : Network) (groups : List Group) (g d : ℕ) (v
   pub are : (v : Vertex) → Contains vertices v ↔ ((¬ IsHost net (loc_of v)) × IsVertex net groups g d v)
 
 -- a vertex counts one, and one more for each vertex with a function at its location
-abbrev pub entries_of : List Vertex → Vertex → ℕ
-entries_of vertices v = 1 + count_by (λ u. (loc_of u == loc_of v) && is_some u.symbol.fun) vertices
+abbrev pub vertex_entries : List Vertex → Vertex → ℕ
+vertex_entries vertices v = 1 + count_by (λ u. (loc_of u == loc_of v) && is_some u.symbol.fun) vertices
 
 abbrev pub entries_in : List Vertex → ℕ
-entries_in vertices = sum_by (entries_of vertices) vertices
+entries_in vertices = sum_by (vertex_entries vertices) vertices
 
 -- a guaranteed group has one product, that of its ends; every other one has those of all destinations
 abbrev pub destinations_of : Network → Option WrittenWalk → List ℕ

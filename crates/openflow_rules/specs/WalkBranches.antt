@@ -8,9 +8,9 @@ use Rattle.rule_tables.specs.Branches.{vertex_in, next_at}
 use Rattle.configuration_model.specs.Groups.{vertices_after}
 
 -- the vertices of all symbols of a word, after a state
-abbrev pub vertices_along : SymbolAutomaton → ℕ → List Symbol → List Vertex
-vertices_along a q [] = []
-vertices_along a q (x ∷ w) = record { symbol = x; state = a.step q x } ∷ vertices_along a (a.step q x) w
+abbrev pub vertices_on_word : SymbolAutomaton → ℕ → List Symbol → List Vertex
+vertices_on_word a q [] = []
+vertices_on_word a q (x ∷ w) = record { symbol = x; state = a.step q x } ∷ vertices_on_word a (a.step q x) w
 
 -- the place after k, if it is one of so many
 abbrev pub place_after : ℕ → ℕ → Option ℕ
@@ -22,7 +22,7 @@ IsBeforeLast walk inner = ((walk ≡ []) × (inner ≡ [])) ⊎ ((last : Symbol)
 
 -- the vertices of a word, each with the next one
 pub record AreStepsAlong (a : SymbolAutomaton) (word : List Symbol) (steps : List Step) : Type 0 where
-  pub vertices : map vertex_in steps ≡ vertices_along a 0 word
+  pub vertices : map vertex_in steps ≡ vertices_on_word a 0 word
   pub follows : (k : ℕ) → k < length word → next_at steps k ≡ Some (place_after (length word) k)
 
 -- the vertices of a walk before its end, each with the next one

@@ -6,7 +6,7 @@ ghost use Rattle.std.specs.Prelude.{is_some, slice_set, IfOk, OnOk, MatchOption,
 ghost use Rattle.std.specs.List.{slice_index_or};
 ghost use Rattle.product_graph.specs.Products.{vertex_of};
 ghost use Rattle.openflow_rules.specs.Planning.{entries_in};
-ghost use Rattle.openflow_rules.specs.Gathered.{is_inner, AreAtLocations, CountsFunctions, IsRoomAfter};
+ghost use Rattle.openflow_rules.specs.Gathered.{is_inner, AreVerticesWithin, CountsFunctions, IsRoomAfter};
 
 use merlin_model::OutOfMemory;
 use product_graph::Vertex;
@@ -35,7 +35,7 @@ pub fn inner_vertices(
     net: &Topology,
     vertices: &[Vertex],
 ) -> Result<Items<Vertex>, OutOfMemory>
-    requires { AreAtLocations (length net.now.locations) vertices.now }
+    requires { AreVerticesWithin (length net.now.locations) vertices.now }
     ensures { IfOk result (λ inner. inner ≡ filter (is_inner net.now) vertices.now) }
 {
     let mut inner = Items::new(alloc);
@@ -51,7 +51,7 @@ fn count_function(counts: &mut Items<usize>, vertex: Vertex)
     requires small { slice_index_or counts.old vertex.symbol.loc 0 + 1 < 2 ^ 64 }
     ensures { counts.new ≡ (if is_some vertex.symbol.fun
         then slice_set counts.old vertex.symbol.loc
-            (slice_index_or counts.old vertex.symbol.loc 0 + 1)
+        (slice_index_or counts.old vertex.symbol.loc 0 + 1)
         else counts.old) }
 {
     if vertex.symbol.fun.is_some() {
@@ -66,7 +66,7 @@ fn functions_by_location(
     locations: usize,
     vertices: &[Vertex],
 ) -> Result<Items<usize>, OutOfMemory>
-    requires { AreAtLocations locations vertices.now }
+    requires { AreVerticesWithin locations vertices.now }
     ensures { IfOk result (CountsFunctions vertices.now locations) }
 {
     let mut counts = Items::from_vec(vec![in alloc; 0; locations]?);
@@ -78,7 +78,7 @@ fn functions_by_location(
 
 /// What is left of the room after the entries of these vertices. None where there is no room for them.
 fn entries_left(counts: &[usize], vertices: &[Vertex], room: u64) -> Option<u64>
-    requires at { AreAtLocations (length counts.now) vertices.now }
+    requires at { AreVerticesWithin (length counts.now) vertices.now }
     requires counts { CountsFunctions vertices.now (length counts.now) counts.now }
     ensures { MatchOption result (room < entries_in (map vertex_of vertices.now))
         (λ left. left + entries_in (map vertex_of vertices.now) ≡ room) }
@@ -102,7 +102,7 @@ pub fn room_after(
     vertices: &[Vertex],
     room: Option<u64>,
 ) -> Result<Option<u64>, OutOfMemory>
-    requires { AreAtLocations locations vertices.now }
+    requires { AreVerticesWithin locations vertices.now }
     ensures { IfOk result (IsRoomAfter room (entries_in (map vertex_of vertices.now))) }
 {
     let Some(room) = room else {

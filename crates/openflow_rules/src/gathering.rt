@@ -13,7 +13,7 @@ ghost use Rattle.openflow_rules.specs.Planning.{entries_in};
 ghost use Rattle.openflow_rules.specs.GroupSpans.{IsGroupSpan};
 ghost use Rattle.openflow_rules.specs.Gathered.{AreInnerOf, IsBranchFor, IsBranchOfSpan, IsBranchKept};
 ghost use Rattle.openflow_rules.specs.Gathered.{IsAddition, IsGathered, IsTagIn, IsTagOfVertex};
-ghost use Rattle.openflow_rules.specs.Gathered.{IsTagFault, AreTagsPut, IsRoomAfter, AreAtLocations};
+ghost use Rattle.openflow_rules.specs.Gathered.{IsTagFault, AreTagsPut, IsRoomAfter, AreVerticesWithin};
 
 use crate::entries::{inner_vertices, room_after};
 use crate::fault::{MAX_ENTRIES, RuleFault};
@@ -89,7 +89,7 @@ fn taken_at(alloc: Global, site: &Site<'_>, span: GroupSpan) -> Result<Taken, Ou
     requires span { (groups : List Group) ×
         IsGroupSpan site.now.net.now site.now.checked.now groups span }
     ensures at { IfOk result (λ taken.
-        AreAtLocations (length site.now.net.now.locations) taken.inner) }
+        AreVerticesWithin (length site.now.net.now.locations) taken.inner) }
     ensures inner { (groups : List Group) →
         IsGroupSpan site.now.net.now site.now.checked.now groups span → IfOk result (λ taken.
         AreInnerOf site.now.net.now groups span (map vertex_of taken.inner)) }
@@ -125,7 +125,7 @@ fn add_taken(
     taken: Taken,
 ) -> Result<(), RuleFault>
     requires few { length gathered.old.tags ≤ MAX_TAGS }
-    requires at { AreAtLocations (length net.now.locations) taken.inner }
+    requires at { AreVerticesWithin (length net.now.locations) taken.inner }
     ensures tags { OnOk result
         (AreTagsPut group (map vertex_of taken.inner) gathered.old.tags gathered.new.tags) }
     ensures few { OnOk result (length gathered.new.tags ≤ MAX_TAGS) }
@@ -161,7 +161,7 @@ fn add_product(
     ensures err { (groups : List Group) →
         IsGroupSpan site.now.net.now site.now.checked.now groups span →
         IfErr result (IsTagFault (λ k. Contains gathered.old.tags k ⊎
-            IsTagIn site.now.net.now groups (span ∷ []) k)) }
+        IsTagIn site.now.net.now groups (span ∷ []) k)) }
 {
     let taken = taken_at(alloc, site, span)?;
     add_taken(alloc, site.net, gathered, span.group, taken)?;
@@ -169,11 +169,7 @@ fn add_product(
 }
 
 /// What all these products come to, unless their tags are too many.
-pub fn gather(
-    alloc: Global,
-    site: &Site<'_>,
-    spans: &[GroupSpan],
-) -> Result<Gathered, RuleFault>
+pub fn gather(alloc: Global, site: &Site<'_>, spans: &[GroupSpan]) -> Result<Gathered, RuleFault>
     requires followers { AreFollowersOf site.now.net.now (network_symbols site.now.net.now)
         site.now.followers.now }
     requires spans { (groups : List Group) × AllByRecursion

@@ -19,9 +19,9 @@ returns-in_err-left-clause-err c =
     let p = err_from_is_err_and c.from_residual.result c.from_residual.ensures.1 in
     rw (p.1, p.2)
     (cell-wider _ _ _ _
-      (λ full. subst (λ (hosts : List ℕ). MAX_CELLS < sum_by (λ s. sum_by (cells_of_pair c.args.net.now c.args.checked.now.policy s) hosts) hosts) c.requires.all
-        (sum-passes (λ s. sum_by (cells_of_pair c.args.net.now c.args.checked.now.policy s) c.args.hosts.now) c.args.hosts.now c.loop-src.src-index c.loop-src.left MAX_CELLS c.loop-src-test.true c.loop-src.invariant full))
-      _ c.in_err-left.ensures.err)
+    (λ full. subst (λ (hosts : List ℕ). MAX_CELLS < sum_by (λ s. sum_by (cells_of_pair c.args.net.now c.args.checked.now.policy s) hosts) hosts) c.requires.all
+    (sum-passes (λ s. sum_by (cells_of_pair c.args.net.now c.args.checked.now.policy s) c.args.hosts.now) c.args.hosts.now c.loop-src.src-index c.loop-src.left MAX_CELLS c.loop-src-test.true c.loop-src.invariant full))
+    _ c.in_err-left.ensures.err)
 
 pub loop-src-preserved : goal.loop-src-preserved
 loop-src-preserved c = sum-next (λ s. sum_by (cells_of_pair c.args.net.now c.args.checked.now.policy s) c.args.hosts.now) c.args.hosts.now c.loop-src.src-index c.loop-src.left _ MAX_CELLS c.loop-src-test.true c.loop-src.invariant c.in_ok-left.ensures.ok

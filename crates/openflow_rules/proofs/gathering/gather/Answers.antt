@@ -32,9 +32,9 @@ returns-in_err-add_product-clause-err c = λ groups all.
     let p = err_from_is_err_and c.from_residual.result c.from_residual.ensures.1 in
     rw (p.1, p.2)
     (fault-wider _ _
-      (λ k h. subst (λ (l : List GroupSpan). IsTagIn c.args.site.now.net.now groups l k) (sym (split-at spans i none c.loop-span-test.true))
-        (gathered-wider c.args.site.now.net.now groups (take i spans) (drop (i + 1) spans) (get_or spans i none) c.loop-span.gathered (c.loop-span.invariant groups all) k h))
-      _ (c.in_err-add_product.ensures groups is))
+    (λ k h. subst (λ (l : List GroupSpan). IsTagIn c.args.site.now.net.now groups l k) (sym (split-at spans i none c.loop-span-test.true))
+    (gathered-wider c.args.site.now.net.now groups (take i spans) (drop (i + 1) spans) (get_or spans i none) c.loop-span.gathered (c.loop-span.invariant groups all) k h))
+    _ (c.in_err-add_product.ensures groups is))
 
 pub loop-span-preserved : goal.loop-span-preserved
 loop-span-preserved c = λ groups all.

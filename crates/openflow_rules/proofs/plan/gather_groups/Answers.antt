@@ -24,10 +24,11 @@ gather-requires-clause-spans c =
     let checked : CheckedPolicy = c.args.checked.now in
     let ends : List Ends = c.args.ends.now in
     let leaders : List ℕ = c.args.leaders.now in
-    let g = c.requires.leaders.1 in
-    (map (planned net checked ends) leaders,
+    let g = c.requires.leaders.1 in (
+      map (planned net checked ends) leaders,
       subst (AreSpansOf net checked ends leaders) (sym (c.as_slice.ensures ∙ c.in_ok-spans.ensures ∙ ap (λ (hosts : List ℕ). spans_over hosts ends leaders) c.requires.hosts))
-      (spans-ok net checked ends c.requires.automata c.requires.ends leaders (λ j h. ((g.leaders_are j).0 h).0)))
+          (spans-ok net checked ends c.requires.automata c.requires.ends leaders (λ j h. ((g.leaders_are j).0 h).0)),
+    )
 
 pub returns-in_err-gather-clause-err : goal.returns-in_err-gather-clause-err
 returns-in_err-gather-clause-err c =
@@ -42,7 +43,7 @@ returns-in_err-gather-clause-err c =
     let p = err_from_is_err_and c.from_residual.result c.from_residual.ensures.1 in
     rw (p.1, p.2)
     (passes-tags net checked ends c.requires.automata c.requires.ends leaders c.requires.leaders.0 g _
-      (subst (λ (l : List GroupSpan). IsTagFault (IsTagIn net groups l) _) same (c.in_err-gather.ensures.err groups ok)))
+    (subst (λ (l : List GroupSpan). IsTagFault (IsTagIn net groups l) _) same (c.in_err-gather.ensures.err groups ok)))
 
 pub returns-clause-ok : goal.returns-clause-ok
 returns-clause-ok c =

@@ -19,17 +19,16 @@ returns-in_err-put_tag-clause-err c =
     let p = err_from_is_err_and c.from_residual.result c.from_residual.ensures.1 in
     rw (p.1, p.2)
     (fault-wider _ _
-      (λ k h. subst (λ (l : List ModelVertex). Contains c.args.tags.now k ⊎ IsTagOfVertex c.args.group l k) (sym (mapped-split vertex_of vs i none c.loop-vertex-test.true))
-        (tag-wider c.args.group (map vertex_of (take i vs)) (map vertex_of (drop (i + 1) vs)) (vertex_of (get_or vs i none)) c.args.tags.now c.loop-vertex.tags c.loop-vertex.invariant.0 k h))
-      _ c.in_err-put_tag.ensures.err)
+    (λ k h. subst (λ (l : List ModelVertex). Contains c.args.tags.now k ⊎ IsTagOfVertex c.args.group l k) (sym (mapped-split vertex_of vs i none c.loop-vertex-test.true))
+    (tag-wider c.args.group (map vertex_of (take i vs)) (map vertex_of (drop (i + 1) vs)) (vertex_of (get_or vs i none)) c.args.tags.now c.loop-vertex.tags c.loop-vertex.invariant.0 k h))
+    _ c.in_err-put_tag.ensures.err)
 
 pub loop-vertex-preserved : goal.loop-vertex-preserved
 loop-vertex-preserved c =
     let vs : List ListedVertex = c.args.vertices.now in
-    let i : ℕ = c.loop-vertex.vertex-index in
-    (
+    let i : ℕ = c.loop-vertex.vertex-index in (
       subst (λ (l : List ModelVertex). AreTagsPut c.args.group l c.args.tags.now c.put_tag.new.tags) (sym (mapped-next vertex_of vs i none c.loop-vertex-test.true))
-      (tags-next c.args.group (map vertex_of (take i vs)) (vertex_of (get_or vs i none)) c.args.tags.now c.loop-vertex.tags c.put_tag.new.tags c.loop-vertex.invariant.0 c.in_ok-put_tag.ensures.put),
+          (tags-next c.args.group (map vertex_of (take i vs)) (vertex_of (get_or vs i none)) c.args.tags.now c.loop-vertex.tags c.put_tag.new.tags c.loop-vertex.invariant.0 c.in_ok-put_tag.ensures.put),
       c.in_ok-put_tag.ensures.few,
     )
 

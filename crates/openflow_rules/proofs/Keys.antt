@@ -1,6 +1,6 @@
 -- Keys in order, put one by one.
-use Rattle.std.proofs.Common.{◌≡◌, ◌⊎◌, ◌<◌, ◌↔◌, inl, inr, ℕ, suc, ◌==◌, nat_lt, Bool, true, false, cond, List, [], ◌∷◌, map, Contains, Option, None, Some, Ordering, refl, sym, ◌∙◌, ap, subst, arith}
-use Rattle.std.specs.Ordering.{Less, Equal, Greater, nat_cmp, ordering_then, match_ordering}
+use Rattle.std.proofs.Common.{◌≡◌, ◌⊎◌, ◌<◌, ◌↔◌, inl, inr, ℕ, suc, ◌==◌, nat_lt, Bool, true, false, cond, List, [], ◌∷◌, map, Contains, Option, None, Some, Ordering, Less, Equal, Greater, refl, sym, ◌∙◌, ap, subst, arith}
+use Rattle.std.specs.Ordering.{nat_cmp, ordering_then, match_ordering}
 use Rattle.std.specs.Option.{option_cmp}
 use Rattle.std.specs.BTreeSet.{insert_key}
 use Rattle.std.specs.List.{AllByRecursion}

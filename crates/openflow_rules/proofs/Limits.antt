@@ -22,7 +22,7 @@ use Rattle.openflow_rules.specs.Planning.{entries_in, ArePlanned, HasFewTags, Is
 use Rattle.openflow_rules.specs.GroupSpans.{spans_over}
 use Rattle.openflow_rules.specs.Gathered.{IsTagFault, IsTagIn, IsRoomBeside, IsGathered}
 use Rattle.openflow_rules.specs.PlanParts.{IsGatheredFor, IsWithinRest, IsRestFault}
-use Rattle.openflow_rules.proofs.PlannedGroups.{planned, are-planned}
+use Rattle.openflow_rules.proofs.PlannedGroups.{planned, are-groups}
 use Rattle.openflow_rules.proofs.Spanning.{inner-of-all, tag-in, in-tag}
 
 module _ (net : Network) (checked : CheckedPolicy) (ends : List Ends) where
@@ -32,12 +32,12 @@ module _ (net : Network) (checked : CheckedPolicy) (ends : List Ends) where
     bare_groups = map (planned net checked ends) leaders
 
     plan-of : ArePlanned net checked ends bare_groups
-    plan-of = are-planned net checked ends automata all leaders group_of grouped
+    plan-of = record { leaders = leaders; group_of = group_of; grouped = grouped; are = are-groups net checked ends automata all leaders group_of grouped }
 
     pub gathered-for : (g : Gathered) → IsGathered net bare_groups (spans_over (all_hosts net) ends leaders) g → Pairwise IsBelowKey g.tags → IsGatheredFor net checked ends leaders g
     gathered-for g h ascend = record {
       groups = bare_groups;
-      are = plan-of.are;
+      are = are-groups net checked ends automata all leaders group_of grouped;
       tags = record {
         ascend = ascend;
         are = λ key. (λ c. in-tag net checked ends leaders key ((h.tags key).0 c), λ t. (h.tags key).1 (tag-in net checked ends leaders key t));

@@ -20,7 +20,7 @@ use Rattle.path_automaton.proofs.Building.{below-get, get-map}
 use Rattle.policy_check.specs.Checked.{CheckedPolicy, HasAutomata, automaton_of_statement}
 use Rattle.configuration_model.specs.Groups.{Leads, AreGrouped, IsGroupOf, AreGroups, written_walk_of}
 use Rattle.configuration_model.proofs.Lists.{find-in}
-use Rattle.openflow_rules.specs.Planning.{statement_automata, bare_walks, ArePlanned}
+use Rattle.openflow_rules.specs.Planning.{statement_automata, bare_walks}
 use Rattle.openflow_rules.specs.GroupSpans.{ends_for, bare_walk, group_by}
 
 abbrev pub no_table : AutomatonTables
@@ -140,13 +140,8 @@ module _ (net : Network) (checked : CheckedPolicy) (ends : List Ends) (automata 
         );
       }
 
-  pub are-planned : (leaders group_of : List ℕ) → AreGrouped checked.policy leaders group_of → ArePlanned net checked ends (map (planned net checked ends) leaders)
-  are-planned leaders group_of grouped = record {
-    leaders = leaders;
-    group_of = group_of;
-    grouped = grouped;
-    are = zip-map _ (planned net checked ends) leaders (each leaders (λ j c. ((grouped.leaders_are j).0 c).0));
-  }
+  pub are-groups : (leaders group_of : List ℕ) → AreGrouped checked.policy leaders group_of → AreGroups checked.policy (network_symbols net) (statement_automata checked) ends (bare_walks ends) leaders (map (planned net checked ends) leaders)
+  are-groups leaders group_of grouped = zip-map _ (planned net checked ends) leaders (each leaders (λ j c. ((grouped.leaders_are j).0 c).0))
     where
       each : (js : List ℕ) → ((j : ℕ) → Contains js j → j < length (paths_of checked.policy)) → AllByRecursion (λ j. IsGroupOf checked.policy (network_symbols net) (statement_automata checked) ends (bare_walks ends) j (planned net checked ends j)) js
       each js within = all-contained _ js (λ j c. group-of j (within j c))

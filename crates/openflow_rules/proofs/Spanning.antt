@@ -22,7 +22,7 @@ use Rattle.openflow_rules.specs.declared.spans.GroupSpan.{GroupSpan}
 use Rattle.openflow_rules.specs.Planning.{destinations_of, products_of, AreInnerVertices}
 use Rattle.openflow_rules.specs.GroupSpans.{ends_for, bare_walk, span_to, spans_by, spans_over, IsSpanOf, IsGroupSpan}
 use Rattle.openflow_rules.specs.Gathered.{AreInnerOf, IsTagIn}
-use Rattle.openflow_rules.proofs.PlannedGroups.{planned, IsTableOf, table-of, ends-are}
+use Rattle.openflow_rules.proofs.PlannedGroups.{no_table, planned, IsTableOf, table-of, ends-are}
 
 abbrev pub place_of : GroupSpan → ℕ × ℕ
 place_of s = (s.group, dest_of s.span)
@@ -99,7 +99,7 @@ module _ (net : Network) (checked : CheckedPolicy) (ends : List Ends) where
             get-map-all (j ∷ js) (suc k) = get-map-all js k
 
         among : (j : ℕ) → slice_get leaders key.group ≡ Some j → (s : GroupSpan) → In s (spans_by (all_hosts net) key.group j (ends_for ends j)) → Contains spans s
-        among j e s i = in_to spans s (flat_map_in (λ l. spans_by (all_hosts net) l.0 l.1 (ends_for ends l.1)) (enumerate_from 0 leaders) (key.group, j) s (at-numbered 0 leaders key.group j e) i)
+        among j e s i = in_to spans s (flat_map_in (λ l. spans_by (all_hosts net) l.0 l.1 (ends_for ends l.1)) (enumerate_from 0 leaders) (key.group, j) s (subst (λ m. In (m, j) (enumerate_from 0 leaders)) (let z : 0 + key.group ≡ key.group = omega arith in z) (at-numbered 0 leaders key.group j e)) i)
 
         found : (j : ℕ) → slice_get leaders key.group ≡ Some j → (o : Option Ends) → ends_for ends j ≡ o → IsVertexIn net (group-at j).automaton (option_map bare_walk o) t.dest t.vertex → IsTagIn net groups spans key
         found j e None is stands = record {
@@ -155,7 +155,7 @@ module _ (net : Network) (checked : CheckedPolicy) (ends : List Ends) where
           width = t.width;
           group = group-at j;
           there = ap (slice_get (map group-at leaders)) eg ∙ get-map group-at leaders g j at_g;
-          automaton = ap (λ o. automaton_of (network_symbols net) (unwrap_or o _)) t.is;
+          automaton = ap (λ o. automaton_of (network_symbols net) (unwrap_or o no_table)) t.is;
           span = span;
         }
 

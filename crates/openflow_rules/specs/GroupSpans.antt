@@ -1,6 +1,6 @@
 -- The products of groups, by the hosts between which they lead.
-use Rattle.std.specs.Prelude.{ℕ, ◌≡◌, ◌<◌, ◌==◌, List, [], ◌∷◌, length, map, find, Option, None, Some, slice_get, option_map, position, suc, unwrap_or}
-use Rattle.std.specs.List.{enumerate_from, flat_map}
+use Rattle.std.specs.Prelude.{ℕ, ◌≡◌, ◌<◌, ◌==◌, List, [], ◌∷◌, length, map, find, Option, None, Some, slice_get, option_map, suc}
+use Rattle.std.specs.List.{enumerate_from, flat_map, position_from}
 use Rattle.merlin_model.specs.declared.policy.Ends.{Ends}
 use Rattle.merlin_model.specs.Networks.{Network, IsHost}
 use Rattle.merlin_model.specs.Policies.{paths_of}
@@ -38,7 +38,7 @@ abbrev pub group_by : Network → List Ends → ℕ → AutomatonTables → Grou
 group_by net ends j table = record {
   automaton = automaton_of (network_symbols net) table;
   written = option_map bare_walk (ends_for ends j);
-  queue = option_map suc (position (λ e. e.statement == j) ends);
+  queue = option_map suc (position_from (λ e. e.statement == j) 0 ends);
 }
 
 -- the span leads between the ends of a guaranteed group, or from all hosts to a destination

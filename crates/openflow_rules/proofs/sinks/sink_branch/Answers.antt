@@ -21,7 +21,11 @@ pub steps_of-requires-clause-size : goal.steps_of-requires-clause-size
 steps_of-requires-clause-size c = c.in_ok-tree.ensures.size c.requires.0 c.requires.1 (All c.args.dest) c.requires.2
 
 pub returns-in_default : goal.returns-in_default
-returns-in_default c = ?
+returns-in_default c = λ net a host is. by net a host is
+  where
+    by : (net : Network) (a : SymbolAutomaton) → IsHost net c.args.dest → IsProduct net a (All c.args.dest) c.args.product.now → IsSinkBranch net a c.args.dest (record { dest = c.args.dest; steps = c.new-steps.result })
+    by net a host (inl cut) = empty-branch net a c.args.dest (c.sink_tree_is_followed.ensures.empty net a c.args.dest c.args.product.now host cut) (record { dest = c.args.dest; steps = c.new-steps.result }) refl c.new-steps.ensures
+    by net a host (inr t) = absurd (c.in_default.not-Some _ (c.end.ensures ∙ t.end))
 
 pub returns : goal.returns
 returns c = λ net a host is. by net a host is

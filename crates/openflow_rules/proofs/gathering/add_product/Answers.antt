@@ -18,6 +18,6 @@ returns-clause-ok c = λ groups is. record {
 
 pub returns-in_err-add_taken-clause-err : goal.returns-in_err-add_taken-clause-err
 returns-in_err-add_taken-clause-err c = λ groups is.
-    let p = err_from_is_err_and c.from_residual.result c.from_residual.ensures.1 in
+    let p = err_from_is_err_and c.from_residual-in_err-add_taken.result c.from_residual-in_err-add_taken.ensures.1 in
     rw (p.1, p.2)
     (fault-wider _ _ (of-inner-or c.args.site.now.net.now groups c.args.span (map vertex_of c.in_ok-taken.taken.inner) (c.in_ok-taken.ensures.inner groups is) c.args.gathered.now.tags) _ c.in_err-add_taken.ensures.err)

@@ -30,8 +30,8 @@ gather-requires-clause-spans c =
           (spans-ok net checked ends c.requires.automata c.requires.ends leaders (λ j h. ((g.leaders_are j).0 h).0)),
     )
 
-pub returns-in_err-gather-clause-err : goal.returns-in_err-gather-clause-err
-returns-in_err-gather-clause-err c =
+pub returns-in_err-gathered-clause-err : goal.returns-in_err-gathered-clause-err
+returns-in_err-gathered-clause-err c =
     let net : Network = c.args.net.now in
     let checked : CheckedPolicy = c.args.checked.now in
     let ends : List Ends = c.args.ends.now in
@@ -40,10 +40,10 @@ returns-in_err-gather-clause-err c =
     let groups : List Group = map (planned net checked ends) leaders in
     let same = c.as_slice.ensures ∙ c.in_ok-spans.ensures ∙ ap (λ (hosts : List ℕ). spans_over hosts ends leaders) c.requires.hosts in
     let ok = subst (AreSpansOf net checked ends leaders) (sym same) (spans-ok net checked ends c.requires.automata c.requires.ends leaders (λ j h. ((g.leaders_are j).0 h).0)) in
-    let p = err_from_is_err_and c.from_residual.result c.from_residual.ensures.1 in
+    let p = err_from_is_err_and c.from_residual-in_err-gathered.result c.from_residual-in_err-gathered.ensures.1 in
     rw (p.1, p.2)
     (passes-tags net checked ends c.requires.automata c.requires.ends leaders c.requires.leaders.0 g _
-    (subst (λ (l : List GroupSpan). IsTagFault (IsTagIn net groups l) _) same (c.in_err-gather.ensures.err groups ok)))
+    (subst (λ (l : List GroupSpan). IsTagFault (IsTagIn net groups l) _) same (c.in_err-gathered.ensures.err groups ok)))
 
 pub returns-clause-ok : goal.returns-clause-ok
 returns-clause-ok c =

@@ -10,7 +10,7 @@ returns-then-len-gt-MAX_TAGS-clause-err c = (
     keys = c.put.new.self;
     ascend = c.len.ensures.ascend;
     each = all-contained _ c.put.new.self (λ k here. (c.in_ok-put.ensures k).0 here);
-    many = ?;
+    many = let count = c.len.ensures.count in let more = c.if-len-gt-MAX_TAGS.true in omega (arith, count, more);
   },
   refl,
 )

@@ -43,7 +43,7 @@ returns-in_err-gathered-clause-err c =
     let p = err_from_is_err_and c.from_residual-in_err-gathered.result c.from_residual-in_err-gathered.ensures.1 in
     rw (p.1, p.2)
     (passes-tags net checked ends c.requires.automata c.requires.ends leaders c.requires.leaders.0 g _
-    (subst (λ (l : List GroupSpan). IsTagFault (IsTagIn net groups l) _) same (c.in_err-gathered.ensures.err groups ok)))
+    (subst (λ (l : List GroupSpan). IsTagFault (IsTagIn net groups l) c.in_err-gathered.field-0.0) same (c.in_err-gathered.ensures.err groups ok)))
 
 pub returns-clause-ok : goal.returns-clause-ok
 returns-clause-ok c =

@@ -46,6 +46,7 @@ module _ (net : Network) (checked : CheckedPolicy) (ends : List Ends) where
       count = sum_by entries_in h.vertices;
       entries = record { vertices = h.vertices; are = inner-of-all net checked ends leaders h.vertices h.are; count_is = refl };
       room = h.room;
+      branches = h.branches;
     }
 
     pub passes-tags : (f : RuleFault) → IsTagFault (IsTagIn net bare_groups (spans_over (all_hosts net) ends leaders)) f → PassesLimit net checked ends f

@@ -3,7 +3,7 @@ use Rattle.std.proofs.lemmas.Result.{err_from_is_err_and}
 use Rattle.configuration_model.specs.Groups.{AreGrouped}
 use Rattle.openflow_rules.specs.PlanParts.{IsGatheredFor}
 use Rattle.openflow_rules.proofs.Limits.{within-limits, passes-rest}
-use Rattle.openflow_rules.proofs.plan.prepare.Goals as goal
+use Rattle.openflow_rules.proofs.preparing.prepare.Goals as goal
 
 pub gather_groups-requires-clause-leaders : goal.gather_groups-requires-clause-leaders
 gather_groups-requires-clause-leaders c =

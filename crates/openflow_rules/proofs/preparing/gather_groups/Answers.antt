@@ -12,7 +12,7 @@ use Rattle.openflow_rules.specs.Gathered.{IsTagFault, IsTagIn, IsGathered}
 use Rattle.openflow_rules.proofs.PlannedGroups.{planned}
 use Rattle.openflow_rules.proofs.Spanning.{spans-ok}
 use Rattle.openflow_rules.proofs.Limits.{gathered-for, passes-tags}
-use Rattle.openflow_rules.proofs.plan.gather_groups.Goals as goal
+use Rattle.openflow_rules.proofs.preparing.gather_groups.Goals as goal
 
 -- the spans are those of groups
 abbrev AreSpansOf : Network → CheckedPolicy → List Ends → List ℕ → List GroupSpan → Type 0

@@ -18,16 +18,18 @@ use crate::spans::{group_spans, host_locations};
 use merlin_model::policy::Ends;
 use policy_check::Checked;
 use product_graph::followers_of;
-use rule_tables::TagKey;
+use rule_tables::{Branch, TagKey};
 use sqlite_items::Items;
 use std::alloc::Global;
 use topology::Topology;
 
-/// The groups of a policy, and their tags in order.
+/// The groups of a policy, their tags in order, and for each of their products its branch, which for a
+/// guaranteed group is empty, since its walk is not chosen yet.
 #[derive(Drop)]
 pub struct PlanParts {
     pub groups: Groups,
     pub tags: Items<TagKey>,
+    pub branches: Items<Branch>,
 }
 
 /// What the products of all groups come to. The groups are told by the statements that stand for them.
@@ -92,7 +94,7 @@ fn ask_rest(
 
 /// The groups of a policy with their tags, if all is within the limits: tags before cells before
 /// entries.
-fn prepare(
+pub fn prepare(
     alloc: Global,
     checked: &Checked,
     ends: &[Ends],
@@ -109,6 +111,15 @@ fn prepare(
     let leaders = groups.leaders.as_slice();
     let gathered = gather_groups(alloc, checked, ends, net, hosts.as_slice(), leaders)?;
     ask_rest(alloc, net, checked, hosts.as_slice(), gathered.room)?;
-    let tags = gathered.tags.into_items(alloc)?;
-    Ok(PlanParts { groups, tags })
+    let Gathered {
+        tags,
+        room: _,
+        branches,
+    } = gathered;
+    let tags = tags.into_items(alloc)?;
+    Ok(PlanParts {
+        groups,
+        tags,
+        branches,
+    })
 }

@@ -1,21 +1,20 @@
 -- What products come to, one after the other.
-use Rattle.std.proofs.Common.{◌≡◌, ◌<◌, ◌≤◌, ◌⊎◌, ◌↔◌, inl, inr, ◌+◌, ℕ, List, [], ◌∷◌, ◌++◌, length, map, Contains, Option, None, Some, refl, sym, ◌∙◌, ap, subst, arith}
+use Rattle.std.proofs.Common.{◌≡◌, ◌⊎◌, inl, inr, ℕ, List, [], ◌∷◌, ◌++◌, length, Contains, Option, None, Some, refl, sym, ◌∙◌, ap, subst, arith}
 use Rattle.std.specs.Prelude.{sum_by, IsSome}
-use Rattle.std.specs.List.{AllByRecursion, AllZip}
+use Rattle.std.specs.List.{AllZip}
 use Rattle.std.proofs.lemmas.List.Sums.{sum_by_push}
-use Rattle.merlin_model.specs.Networks.{Network, IsHost}
+use Rattle.merlin_model.specs.Networks.{Network}
 use Rattle.merlin_model.proofs.Members.{in_to, in_append-right}
-use Rattle.rules_model.specs.Products.{Vertex, loc_of, Group, IsVertex}
+use Rattle.rules_model.specs.Products.{Vertex, Group, IsVertex}
 use Rattle.rules_model.specs.Tables.{TagKey as ModelKey, tag_key_of}
 use Rattle.product_graph.specs.Products.{dest_of}
 use Rattle.product_graph.proofs.Lists.{all-map, none-some, contains-left, contains-right, contains-last, contains-one, contains-snoc, contains-none}
-use Rattle.openflow_rules.specs.declared.fault.TheConstants.{MAX_TAGS}
 use Rattle.openflow_rules.specs.declared.fault.RuleFault.{RuleFault}
 use Rattle.openflow_rules.specs.declared.fault.RuleFault.TheVariants.{TooManyTags, TooManyCells, TooManyEntries, OutOfMemory}
 use Rattle.openflow_rules.specs.declared.spans.GroupSpan.{GroupSpan}
 use Rattle.openflow_rules.specs.declared.gathering.Gathered.{Gathered}
 use Rattle.openflow_rules.specs.Planning.{entries_in}
-use Rattle.openflow_rules.specs.Gathered.{IsRoomAfter, IsRoomBeside, IsKeyPut, IsTagOfVertex, AreTagsPut, AreManyKeys, IsTagFault, AreInnerOf, IsBranchKept, IsBranchFor, IsTagIn, IsAddition, IsGathered}
+use Rattle.openflow_rules.specs.Gathered.{IsRoomAfter, IsRoomBeside, IsKeyPut, IsTagOfVertex, AreTagsPut, IsTagFault, AreInnerOf, IsBranchKept, IsBranchFor, IsTagIn, IsAddition, IsGathered}
 use Rattle.openflow_rules.proofs.Counting.{room-next}
 
 -- keys of a kind are keys of a wider kind

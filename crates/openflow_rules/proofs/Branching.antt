@@ -1,12 +1,12 @@
 -- The branch of a product is that of its group.
-use Rattle.std.proofs.Common.{◌≡◌, ℕ, List, map, Contains, Option, None, Some, slice_get, refl, sym, ◌∙◌, ap, subst}
+use Rattle.std.proofs.Common.{◌≡◌, ℕ, List, Option, None, Some, slice_get, refl, sym, subst}
 use Rattle.merlin_model.specs.Networks.{Network}
 use Rattle.rules_model.specs.Products.{Vertex, WrittenWalk, Group, TreeFollows, FollowsIn, FollowsAt, Follows}
 use Rattle.product_graph.specs.declared.span.Span2.{Span2}
 use Rattle.product_graph.specs.declared.span.Span2.TheVariants.{Pair, All}
 use Rattle.policy_check.specs.Checked.{CheckedPolicy}
 use Rattle.rule_tables.specs.declared.branches.Branch.{Branch}
-use Rattle.rule_tables.specs.Branches.{vertex_in, vertex_at, LeadsOn, IsBranch}
+use Rattle.rule_tables.specs.Branches.{IsBranch}
 use Rattle.openflow_rules.specs.declared.spans.GroupSpan.{GroupSpan}
 use Rattle.openflow_rules.specs.GroupSpans.{IsSpanOf, IsGroupSpan}
 use Rattle.openflow_rules.specs.SinkBranches.{IsSinkBranch}

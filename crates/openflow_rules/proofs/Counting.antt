@@ -1,12 +1,11 @@
 -- Entries, counted vertex by vertex.
-use Rattle.std.proofs.Common.{◌≡◌, ◌<◌, ◌≤◌, ◌+◌, ◌==◌, ◌&&◌, ℕ, zero, suc, Bool, true, false, cond, List, [], ◌∷◌, ◌++◌, length, map, take, drop, get_or, slice_get, Option, None, Some, refl, sym, ◌∙◌, ap, subst, arith}
-use Rattle.std.specs.Prelude.{is_some, sum_by, count_by, slice_set, replicate}
-use Rattle.std.specs.List.{AllByRecursion, slice_index_or}
-use Rattle.std.proofs.lemmas.List.Sums.{sum_by-cons, sum_by_more, sum_by-drop_more, sum_by-take-drop, sum_by-take-le, count_by-le-length, count_by_more_yes, count_by_more_no}
-use Rattle.rules_model.specs.Products.{Vertex, loc_of}
+use Rattle.std.proofs.Common.{◌≡◌, ◌<◌, ◌≤◌, ◌+◌, ◌==◌, ◌&&◌, ℕ, zero, suc, Bool, true, false, cond, List, [], ◌∷◌, length, map, take, get_or, Option, None, Some, refl, sym, ◌∙◌, ap, subst, arith}
+use Rattle.std.specs.Prelude.{is_some, sum_by, slice_set, replicate}
+use Rattle.std.specs.List.{slice_index_or}
+use Rattle.std.proofs.lemmas.List.Sums.{sum_by-cons, sum_by_more, sum_by-drop_more, sum_by-take-drop, count_by-le-length, count_by_more_yes, count_by_more_no}
+use Rattle.rules_model.specs.Products.{loc_of}
 use Rattle.product_graph.specs.declared.span.Vertex.{Vertex as ListedVertex}
 use Rattle.product_graph.specs.Products.{vertex_of}
-use Rattle.openflow_rules.specs.declared.fault.TheConstants.{MAX_ENTRIES}
 use Rattle.openflow_rules.specs.Planning.{vertex_entries, entries_in}
 use Rattle.openflow_rules.specs.Gathered.{functions_at, CountsFunctions, IsRoomAfter, IsRoomBeside}
 

@@ -1,24 +1,23 @@
 -- The vertices of a product that are at no host are those that tags and entries count.
-use Rattle.std.proofs.Common.{◌≡◌, ◌⊎◌, ◌<◌, ◌↔◌, inl, inr, ℕ, Bool, true, false, cond, not, List, [], ◌∷◌, ◌++◌, length, map, filter, slice_get, Contains, Option, None, Some, refl, sym, ◌∙◌, ap, subst, arith}
+use Rattle.std.proofs.Common.{◌≡◌, ◌<◌, inl, inr, ℕ, Bool, true, false, cond, not, List, [], ◌∷◌, ◌++◌, length, map, filter, Contains, Option, None, Some, refl, sym, ◌∙◌, ap, subst}
 use Rattle.std.specs.Prelude.{is_some, IsSome, MatchOption}
 use Rattle.std.specs.List.{AllByRecursion, range_with_len}
 use Rattle.merlin_model.specs.declared.network.LocationKind.{LocationKind}
 use Rattle.merlin_model.specs.declared.policy.Symbol.{Symbol}
-use Rattle.merlin_model.specs.Networks.{Network, IsHost, Pairwise, kind_of, places_of, address_at}
+use Rattle.merlin_model.specs.Networks.{Network, IsHost, kind_of, places_of, address_at}
 use Rattle.merlin_model.specs.Words.{at, IsSymbol}
-use Rattle.merlin_model.proofs.Members.{In, in_from, in_to, in_filter}
-use Rattle.rules_model.specs.Products.{SymbolAutomaton, Vertex, loc_of, start_of, WrittenWalk, Group, IsEdge, LeadsTo, LeadsToEnd, IsOnWayBetween, IsVertex, IsVertexAt, IsVertexIn}
+use Rattle.merlin_model.proofs.Members.{in_from, in_filter}
+use Rattle.rules_model.specs.Products.{SymbolAutomaton, Vertex, loc_of, start_of, WrittenWalk, Group, LeadsTo, LeadsToEnd, IsOnWayBetween, IsVertex, IsVertexAt, IsVertexIn}
 use Rattle.rules_model.specs.Tables.{is_host_kind, all_hosts}
 use Rattle.rules_model.proofs.TableRules.{is_location}
 use Rattle.product_graph.specs.declared.span.Vertex.{Vertex as ListedVertex}
 use Rattle.product_graph.specs.declared.span.Product.{Product}
 use Rattle.product_graph.specs.declared.span.Span2.{Span2}
 use Rattle.product_graph.specs.declared.span.Span2.TheVariants.{Pair, All}
-use Rattle.product_graph.specs.Products.{automaton_of, dest_of, IsSource, vertex_of, vertices_of, IsBefore, StandsIn, IsStart, IsCut, IsTrimmed, IsProduct}
-use Rattle.product_graph.proofs.Lists.{none-some, false-true, all-contained, contains-none}
+use Rattle.product_graph.specs.Products.{dest_of, IsSource, vertex_of, StandsIn, IsStart, IsTrimmed, IsProduct}
+use Rattle.product_graph.proofs.Lists.{false-true, all-contained, contains-none}
 use Rattle.policy_check.specs.Checked.{CheckedPolicy}
 use Rattle.openflow_rules.specs.declared.spans.GroupSpan.{GroupSpan}
-use Rattle.openflow_rules.specs.Planning.{AreInnerVertices}
 use Rattle.openflow_rules.specs.GroupSpans.{IsSpanOf, IsGroupSpan}
 use Rattle.openflow_rules.specs.Gathered.{is_inner, AreVerticesWithin, AreAllBelow, AreInnerOf}
 

@@ -1,5 +1,5 @@
 -- Keys in order, put one by one.
-use Rattle.std.proofs.Common.{◌≡◌, ◌⊎◌, ◌<◌, ◌↔◌, inl, inr, ℕ, suc, ◌==◌, nat_lt, Bool, true, false, cond, List, [], ◌∷◌, map, Contains, Option, None, Some, Ordering, Less, Equal, Greater, refl, sym, ◌∙◌, ap, subst, arith}
+use Rattle.std.proofs.Common.{◌≡◌, ◌⊎◌, ◌<◌, inl, inr, ℕ, ◌==◌, nat_lt, Bool, true, false, cond, List, [], ◌∷◌, map, Contains, Option, None, Some, Ordering, Less, Equal, Greater, refl, sym, ◌∙◌, ap, subst, arith}
 use Rattle.std.specs.Ordering.{nat_cmp, ordering_then, match_ordering}
 use Rattle.std.specs.Option.{option_cmp}
 use Rattle.std.specs.BTreeSet.{insert_key}
@@ -9,7 +9,7 @@ use Rattle.std.proofs.lemmas.Map.Keys.{sorted_head, sorted_tail}
 use Rattle.merlin_model.specs.Networks.{Pairwise}
 use Rattle.merlin_model.proofs.Members.{In, in_from, in_to, in_map, map_in}
 use Rattle.rules_model.specs.Products.{function_place}
-use Rattle.rules_model.specs.Tables.{TagKey as ModelKey, IsBelow, IsBelowKey}
+use Rattle.rules_model.specs.Tables.{IsBelowKey}
 use Rattle.rule_tables.specs.declared.branches.TagKey.{TagKey}
 use Rattle.rule_tables.specs.Branches.{key_of}
 use Rattle.openflow_rules.specs.Gathered.{IsKeyPut}

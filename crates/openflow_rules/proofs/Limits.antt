@@ -1,22 +1,18 @@
 -- What products come to, as the limits speak of it.
-use Rattle.std.proofs.Common.{◌≡◌, ◌⊎◌, ◌<◌, ◌≤◌, ◌↔◌, inl, inr, ◌+◌, ℕ, List, length, map, Contains, Option, None, Some, refl, sym, ◌∙◌, ap, subst, arith}
+use Rattle.std.proofs.Common.{◌≤◌, ℕ, List, map, Option, None, Some, refl, subst, arith}
 use Rattle.std.specs.Prelude.{sum_by, IsSome}
 use Rattle.merlin_model.specs.declared.policy.Ends.{Ends}
 use Rattle.merlin_model.specs.Networks.{Network, Pairwise}
-use Rattle.merlin_model.specs.Policies.{Policy, paths_of}
 use Rattle.merlin_model.specs.Assignments.{AreAllEnds}
 use Rattle.topology.specs.Symbols.{network_symbols}
 use Rattle.rules_model.specs.Products.{Group}
-use Rattle.rules_model.specs.Tables.{TagKey as ModelKey, IsBelowKey, IsTagKey, all_hosts}
-use Rattle.predicate_split.specs.declared.fault.TheConstants.{MAX_CELLS}
-use Rattle.product_graph.proofs.Lists.{all-map, none-some}
+use Rattle.rules_model.specs.Tables.{IsBelowKey, IsTagKey, all_hosts}
+use Rattle.product_graph.proofs.Lists.{all-map}
 use Rattle.policy_check.specs.Checked.{CheckedPolicy, HasAutomata}
 use Rattle.configuration_model.specs.Groups.{AreGrouped}
-use Rattle.configuration_model.specs.Pairs.{count_of_cells}
-use Rattle.openflow_rules.specs.declared.fault.TheConstants.{MAX_TAGS, MAX_ENTRIES}
+use Rattle.openflow_rules.specs.declared.fault.TheConstants.{MAX_ENTRIES}
 use Rattle.openflow_rules.specs.declared.fault.RuleFault.{RuleFault}
 use Rattle.openflow_rules.specs.declared.fault.RuleFault.TheVariants.{TooManyTags, TooManyCells, TooManyEntries, OutOfMemory}
-use Rattle.openflow_rules.specs.declared.spans.GroupSpan.{GroupSpan}
 use Rattle.openflow_rules.specs.declared.gathering.Gathered.{Gathered}
 use Rattle.openflow_rules.specs.Planning.{entries_in, ArePlanned, HasFewTags, IsWithinLimits, PassesLimit}
 use Rattle.openflow_rules.specs.GroupSpans.{spans_over}

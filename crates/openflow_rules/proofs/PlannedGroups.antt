@@ -1,24 +1,23 @@
 -- The groups of a checked policy, before walks are chosen.
-use Rattle.std.proofs.Common.{◌≡◌, ◌⊎◌, ◌<◌, ◌≤◌, inl, inr, ◌+◌, ◌==◌, ℕ, zero, suc, Bool, true, false, cond, List, [], ◌∷◌, ◌++◌, length, map, find, slice_get, Contains, Option, None, Some, refl, sym, ◌∙◌, ap, subst, arith}
+use Rattle.std.proofs.Common.{◌≡◌, ◌<◌, ◌+◌, ◌==◌, ℕ, zero, suc, Bool, true, false, cond, List, [], ◌∷◌, length, map, find, slice_get, Contains, Option, None, Some, refl, sym, ◌∙◌, ap, subst, arith}
 use Rattle.std.specs.Prelude.{filter_map, option_map, option_and_then, unwrap_or}
 use Rattle.std.specs.List.{AllByRecursion, AllZip, cons_option, position_from}
 use Rattle.merlin_model.specs.declared.policy.Ends.{Ends}
-use Rattle.merlin_model.specs.declared.policy.Symbol.{Symbol}
 use Rattle.merlin_model.specs.Networks.{Network, Pairwise}
-use Rattle.merlin_model.specs.Policies.{Policy, paths_of}
+use Rattle.merlin_model.specs.Policies.{paths_of}
 use Rattle.merlin_model.specs.Rates.{IsGuaranteed}
 use Rattle.merlin_model.specs.Words.{at}
 use Rattle.merlin_model.specs.Assignments.{AreTheEnds, AreAllEnds}
-use Rattle.merlin_model.proofs.Members.{In, in_from, all_in}
+use Rattle.merlin_model.proofs.Members.{in_from, all_in}
 use Rattle.merlin_model.proofs.Ascending.{increasing-pairwise}
 use Rattle.path_automaton.specs.Automata.{AutomatonTables}
 use Rattle.topology.specs.Symbols.{network_symbols}
 use Rattle.rules_model.specs.Products.{Group}
 use Rattle.product_graph.specs.Products.{automaton_of}
-use Rattle.product_graph.proofs.Lists.{some-same, none-some, false-true, all-map, all-contained, get-contains, get-below}
+use Rattle.product_graph.proofs.Lists.{some-same, none-some, all-map, all-contained, get-contains}
 use Rattle.path_automaton.proofs.Building.{below-get, get-map}
 use Rattle.policy_check.specs.Checked.{CheckedPolicy, HasAutomata, automaton_of_statement}
-use Rattle.configuration_model.specs.Groups.{Leads, AreGrouped, IsGroupOf, AreGroups, written_walk_of}
+use Rattle.configuration_model.specs.Groups.{AreGrouped, IsGroupOf, AreGroups, written_walk_of}
 use Rattle.configuration_model.proofs.Lists.{find-in}
 use Rattle.openflow_rules.specs.Planning.{statement_automata, bare_walks}
 use Rattle.openflow_rules.specs.GroupSpans.{ends_for, bare_walk, group_by}

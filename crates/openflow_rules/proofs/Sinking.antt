@@ -1,14 +1,13 @@
 -- The branch of a product goes as its sink tree does.
 use Rattle.std.proofs.Common.{◌≡◌, ◌≢◌, ◌⊎◌, ◌<◌, ◌≤◌, inl, inr, ◌+◌, ◌==◌, ℕ, zero, suc, Bool, true, false, cond, List, [], ◌∷◌, ◌++◌, length, map, take, get_or, slice_get, Contains, Option, None, Some, refl, sym, ◌∙◌, ap, subst, arith}
 use Rattle.std.specs.Prelude.{option_map}
-use Rattle.std.specs.List.{AllByRecursion}
 use Rattle.merlin_model.specs.Networks.{Network, IsHost, Pairwise}
-use Rattle.rules_model.specs.Products.{SymbolAutomaton, Vertex, loc_of, function_place, start_of, TreeFollows}
+use Rattle.rules_model.specs.Products.{SymbolAutomaton, Vertex, loc_of, function_place, TreeFollows}
 use Rattle.product_graph.specs.declared.span.Vertex.{Vertex as ListedVertex}
 use Rattle.product_graph.specs.declared.span.Product.{Product}
 use Rattle.product_graph.specs.declared.span.Span2.TheVariants.{All}
-use Rattle.product_graph.specs.Products.{vertex_of, vertices_of, IsBefore, IsStart, IsCut, IsTrimmed, IsProduct}
-use Rattle.product_graph.proofs.Lists.{some-same, none-some, below_or_at, get-below, get-contains, get-more, get-at, take-more, map-length, pairwise-append, pairwise-map, length-more}
+use Rattle.product_graph.specs.Products.{vertex_of, vertices_of, IsBefore, IsTrimmed}
+use Rattle.product_graph.proofs.Lists.{some-same, none-some, below_or_at, get-below, get-contains, get-more, take-more, map-length, pairwise-append, pairwise-map, length-more}
 use Rattle.path_automaton.proofs.Classing.{get-end}
 use Rattle.sink_tree.specs.Trees.{NextLeads, IsSinkTree}
 use Rattle.rule_tables.specs.declared.branches.Step.{Step}

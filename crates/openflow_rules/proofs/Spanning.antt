@@ -1,20 +1,18 @@
 -- The products of groups, as spans and as the model names them.
-use Rattle.std.proofs.Common.{◌≡◌, ◌≢◌, ◌⊎◌, ◌<◌, ◌+◌, ◌==◌, ◌↔◌, inl, inr, ℕ, zero, suc, List, [], ◌∷◌, ◌++◌, length, map, slice_get, Contains, Option, None, Some, refl, sym, ◌∙◌, ap, subst, arith}
+use Rattle.std.proofs.Common.{◌≡◌, ◌<◌, ◌+◌, inl, inr, ℕ, zero, suc, List, [], ◌∷◌, ◌++◌, length, map, slice_get, Contains, Option, None, Some, refl, sym, ◌∙◌, ap, subst, arith}
 use Rattle.std.specs.Prelude.{is_some, option_map, unwrap_or}
 use Rattle.std.specs.List.{AllByRecursion, AllZip, enumerate_from, flat_map, range_with_len}
 use Rattle.merlin_model.specs.declared.policy.Ends.{Ends}
 use Rattle.merlin_model.specs.Networks.{Network, IsHost, kind_of}
 use Rattle.merlin_model.specs.Policies.{paths_of}
-use Rattle.merlin_model.specs.Assignments.{AreTheEnds, AreAllEnds}
-use Rattle.merlin_model.proofs.Members.{In, in_from, in_to, in_filter, in_map, map_in, in_flat_map, flat_map_in}
-use Rattle.path_automaton.specs.Automata.{AutomatonTables}
+use Rattle.merlin_model.specs.Assignments.{AreAllEnds}
+use Rattle.merlin_model.proofs.Members.{In, in_to, in_filter, in_map, map_in, in_flat_map, flat_map_in}
 use Rattle.topology.specs.Symbols.{network_symbols}
-use Rattle.rules_model.specs.Products.{Vertex, loc_of, Group, IsVertex, IsVertexAt, IsVertexIn}
+use Rattle.rules_model.specs.Products.{Vertex, Group, IsVertex, IsVertexAt, IsVertexIn}
 use Rattle.rules_model.specs.Tables.{TagKey as ModelKey, tag_key_of, IsTagKey, all_hosts, is_host_kind}
-use Rattle.product_graph.specs.declared.span.Span2.{Span2}
 use Rattle.product_graph.specs.declared.span.Span2.TheVariants.{Pair, All}
 use Rattle.product_graph.specs.Products.{automaton_of, dest_of}
-use Rattle.product_graph.proofs.Lists.{none-some, some-same, get-below}
+use Rattle.product_graph.proofs.Lists.{none-some, some-same}
 use Rattle.path_automaton.proofs.Building.{get-map, get-in}
 use Rattle.policy_check.specs.Checked.{CheckedPolicy, HasAutomata, automaton_of_statement}
 use Rattle.configuration_model.proofs.Decided.{host-listed}

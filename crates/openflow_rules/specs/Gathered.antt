@@ -7,7 +7,7 @@ use Rattle.rules_model.specs.Tables.{TagKey as ModelKey, tag_key_of, IsBelowKey,
 use Rattle.product_graph.specs.declared.span.Vertex.{Vertex as ListedVertex}
 use Rattle.product_graph.specs.declared.span.Span2.{Span2}
 use Rattle.product_graph.specs.declared.span.Span2.TheVariants.{Pair, All}
-use Rattle.product_graph.specs.Products.{dest_of, vertex_of}
+use Rattle.product_graph.specs.Products.{dest_of}
 use Rattle.rule_tables.specs.declared.branches.Branch.{Branch}
 use Rattle.rule_tables.specs.Branches.{IsBranch}
 use Rattle.predicate_split.specs.declared.fault.TheConstants.{MAX_CELLS}

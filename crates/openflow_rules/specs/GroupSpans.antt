@@ -6,7 +6,7 @@ use Rattle.merlin_model.specs.Networks.{Network, IsHost}
 use Rattle.merlin_model.specs.Policies.{paths_of}
 use Rattle.path_automaton.specs.Automata.{AutomatonTables}
 use Rattle.topology.specs.Symbols.{network_symbols}
-use Rattle.rules_model.specs.Products.{SymbolAutomaton, Vertex, WrittenWalk, Group}
+use Rattle.rules_model.specs.Products.{WrittenWalk, Group}
 use Rattle.product_graph.specs.declared.span.Span2.{Span2}
 use Rattle.product_graph.specs.declared.span.Span2.TheVariants.{Pair, All}
 use Rattle.product_graph.specs.Products.{automaton_of}

@@ -1,5 +1,5 @@
 -- Branches of best effort.
-use Rattle.std.specs.Prelude.{ℕ, ◌≡◌, ◌≢◌, ◌<◌, ◌==◌, List, length, map, take, Option, None, Some, Contains, if◌then◌else◌}
+use Rattle.std.specs.Prelude.{ℕ, ◌≡◌, ◌≢◌, ◌<◌, ◌==◌, List, map, take, Option, None, Some, Contains, if◌then◌else◌}
 use Rattle.merlin_model.specs.Networks.{Network, Pairwise}
 use Rattle.rules_model.specs.Products.{SymbolAutomaton, Vertex, TreeFollows}
 use Rattle.product_graph.specs.declared.span.Product.{Product}

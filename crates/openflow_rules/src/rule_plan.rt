@@ -53,8 +53,11 @@ pub fn plan<'a>(
 ) -> Result<RulePlan<'a>, RuleFault>
     requires automata { HasAutomata (network_symbols net.now) checked.now }
     requires ends { AreAllEnds net.now checked.now.policy ends.now }
-    ensures ok { IfOk result (λ plan. plan ≡ record { net = net.now; checked = checked.now;
-        ends = ends.now }) }
+    ensures ok { IfOk result (λ plan. plan ≡ record {
+      net = net.now;
+      checked = checked.now;
+      ends = ends.now;
+    }) }
     ensures limits { IfOk result (λ _. IsWithinLimits net.now checked.now ends.now) }
     ensures err { IfErr result (PassesLimit net.now checked.now ends.now) }
 {

@@ -2,8 +2,6 @@
 #![tactic(auto)]
 
 mod branches;
-mod tables;
 
 pub use branches::{Branch, GroupBranches, OwnedCell, Step, TagKey};
 pub use merlin_model::OutOfMemory;
-pub use tables::{Tables, tables_of};

@@ -1,10 +1,9 @@
-use Rattle.std.proofs.Common.{◌≡◌, ◌<◌, ◌≤◌, ◌+◌, ℕ, List, length, sym, subst, arith}
+use Rattle.std.proofs.Common.{◌<◌, ◌≤◌, ℕ, List, length, subst, arith}
 use Rattle.std.specs.Prelude.{sum_by}
 use Rattle.std.proofs.lemmas.Result.{err_from_is_err_and}
-use Rattle.merlin_model.specs.Networks.{Network}
 use Rattle.predicate_split.specs.declared.fault.TheConstants.{MAX_CELLS}
 use Rattle.product_graph.proofs.Lists.{all-at}
-use Rattle.configuration_model.specs.Pairs.{cells_of_pair, count_of_cells}
+use Rattle.configuration_model.specs.Pairs.{cells_of_pair}
 use Rattle.openflow_rules.proofs.Rooms.{cell-wider, sum-next, sum-passes, sum-whole, sum-below}
 use Rattle.openflow_rules.proofs.cells.ask_cells.Goals as goal
 

@@ -1,4 +1,4 @@
-use Rattle.std.proofs.Common.{◌<◌, ℕ, None, length}
+use Rattle.std.proofs.Common.{◌<◌, None}
 use Rattle.product_graph.specs.declared.span.Vertex.{Vertex as ListedVertex}
 use Rattle.product_graph.proofs.Lists.{all-at}
 use Rattle.openflow_rules.proofs.Counting.{counts-next}

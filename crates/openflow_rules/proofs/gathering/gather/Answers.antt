@@ -1,7 +1,5 @@
-use Rattle.std.proofs.Common.{◌≡◌, ◌+◌, ◌++◌, ◌∷◌, ℕ, List, length, take, drop, get_or, Some, refl, sym, ◌∙◌, subst, arith}
-use Rattle.std.specs.List.{AllByRecursion}
+use Rattle.std.proofs.Common.{◌+◌, ℕ, List, take, drop, get_or, Some, sym, subst, arith}
 use Rattle.std.proofs.lemmas.Result.{err_from_is_err_and}
-use Rattle.rules_model.specs.Products.{Group}
 use Rattle.product_graph.specs.declared.span.Span2.TheVariants.{Pair}
 use Rattle.product_graph.proofs.Lists.{all-at, take-more}
 use Rattle.openflow_rules.specs.declared.fault.TheConstants.{MAX_ENTRIES}

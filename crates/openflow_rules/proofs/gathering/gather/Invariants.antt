@@ -1,4 +1,4 @@
-use Rattle.std.proofs.Common.{◌≤◌, List, length, take}
+use Rattle.std.proofs.Common.{List, take}
 use Rattle.std.specs.List.{AllByRecursion}
 use Rattle.rules_model.specs.Products.{Group}
 use Rattle.openflow_rules.specs.GroupSpans.{IsGroupSpan}

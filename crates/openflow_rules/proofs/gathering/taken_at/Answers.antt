@@ -1,6 +1,4 @@
-use Rattle.std.proofs.Common.{◌≡◌, List, length, map, filter, sym, ◌∙◌, ap, subst}
-use Rattle.merlin_model.specs.Networks.{Network}
-use Rattle.rules_model.specs.Products.{Vertex as ModelVertex}
+use Rattle.std.proofs.Common.{List, length, map, filter, sym, ◌∙◌, ap, subst}
 use Rattle.product_graph.specs.declared.span.Vertex.{Vertex as ListedVertex}
 use Rattle.product_graph.specs.Products.{vertex_of}
 use Rattle.openflow_rules.specs.Gathered.{is_inner, AreVerticesWithin, AreInnerOf}

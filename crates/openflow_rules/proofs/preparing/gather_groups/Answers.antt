@@ -1,10 +1,9 @@
-use Rattle.std.proofs.Common.{◌≡◌, ◌∙◌, List, map, ℕ, sym, subst, ap, Contains}
+use Rattle.std.proofs.Common.{◌∙◌, List, map, ℕ, sym, subst, ap}
 use Rattle.std.specs.List.{AllByRecursion}
 use Rattle.std.proofs.lemmas.Result.{err_from_is_err_and}
 use Rattle.merlin_model.specs.Networks.{Network}
 use Rattle.merlin_model.specs.declared.policy.Ends.{Ends}
 use Rattle.rules_model.specs.Products.{Group}
-use Rattle.rules_model.specs.Tables.{all_hosts}
 use Rattle.policy_check.specs.Checked.{CheckedPolicy}
 use Rattle.openflow_rules.specs.declared.spans.GroupSpan.{GroupSpan}
 use Rattle.openflow_rules.specs.GroupSpans.{spans_over, IsGroupSpan}

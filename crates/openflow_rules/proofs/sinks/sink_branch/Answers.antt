@@ -1,13 +1,11 @@
-use Rattle.std.proofs.Common.{◌≡◌, ◌⊎◌, ◌<◌, ◌++◌, inl, inr, ℕ, Option, None, Some, length, refl, sym, ◌∙◌, ap, subst, arith}
+use Rattle.std.proofs.Common.{◌≡◌, ◌<◌, ◌++◌, inl, inr, ℕ, Option, length, refl, sym, ◌∙◌, subst, arith}
 use Rattle.std.specs.Prelude.{MatchOption}
 use Rattle.merlin_model.specs.Networks.{Network, IsHost}
 use Rattle.rules_model.specs.Products.{SymbolAutomaton}
-use Rattle.product_graph.specs.declared.span.Product.{Product}
 use Rattle.product_graph.specs.declared.span.Span2.TheVariants.{All}
-use Rattle.product_graph.specs.Products.{IsCut, IsTrimmed, IsProduct}
+use Rattle.product_graph.specs.Products.{IsProduct}
 use Rattle.product_graph.proofs.Lists.{none-some, some-same}
 use Rattle.sink_tree.specs.Trees.{next_in}
-use Rattle.rule_tables.specs.declared.branches.Branch.{Branch}
 use Rattle.openflow_rules.specs.SinkBranches.{AreStepsBelow, IsSinkBranch}
 use Rattle.openflow_rules.proofs.Sinking.{trimmed-branch, empty-branch}
 use Rattle.openflow_rules.proofs.sinks.sink_branch.Goals as goal

@@ -1,4 +1,4 @@
-use Rattle.std.proofs.Common.{◌+◌, ◌≤◌, ◌<◌, List, None, get_or, sym, ◌∙◌, ap, subst, arith}
+use Rattle.std.proofs.Common.{◌+◌, List, None, get_or, sym, ◌∙◌, ap, subst, arith}
 use Rattle.product_graph.specs.declared.span.Vertex.{Vertex as ListedVertex}
 use Rattle.sink_tree.specs.Trees.{next_in}
 use Rattle.openflow_rules.specs.SinkBranches.{before_end, AreStepsBelow}

@@ -1,4 +1,4 @@
-use Rattle.std.proofs.Common.{◌++◌, ◌==◌, ℕ, List, find, get_or, sym, ◌∙◌, ap}
+use Rattle.std.proofs.Common.{◌++◌, ℕ, List, get_or, sym, ◌∙◌, ap}
 use Rattle.openflow_rules.specs.declared.spans.GroupSpan.{GroupSpan}
 use Rattle.openflow_rules.specs.GroupSpans.{ends_for, spans_by}
 use Rattle.openflow_rules.proofs.Steps.{numbered-next}

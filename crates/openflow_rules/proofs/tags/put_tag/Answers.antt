@@ -1,6 +1,4 @@
-use Rattle.std.proofs.Common.{◌⊎◌, ◌≡◌, ◌<◌, List, length, Contains, refl, arith}
-use Rattle.rules_model.specs.Tables.{TagKey as ModelKey, tag_key_of}
-use Rattle.product_graph.specs.Products.{vertex_of}
+use Rattle.std.proofs.Common.{refl, arith}
 use Rattle.product_graph.proofs.Lists.{all-contained}
 use Rattle.openflow_rules.proofs.tags.put_tag.Goals as goal
 

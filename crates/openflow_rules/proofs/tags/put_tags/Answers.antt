@@ -1,10 +1,9 @@
-use Rattle.std.proofs.Common.{◌≡◌, ◌≤◌, ◌⊎◌, ◌+◌, ◌++◌, ◌∷◌, [], ℕ, zero, suc, List, None, length, map, take, drop, get_or, Contains, refl, sym, ◌∙◌, ap, subst, arith}
+use Rattle.std.proofs.Common.{◌⊎◌, ◌+◌, ℕ, List, None, map, take, drop, get_or, Contains, sym, subst, arith}
 use Rattle.std.proofs.lemmas.Result.{err_from_is_err_and}
 use Rattle.rules_model.specs.Products.{Vertex as ModelVertex}
-use Rattle.rules_model.specs.Tables.{TagKey as ModelKey, tag_key_of}
 use Rattle.product_graph.specs.declared.span.Vertex.{Vertex as ListedVertex}
 use Rattle.product_graph.specs.Products.{vertex_of}
-use Rattle.openflow_rules.specs.Gathered.{AreTagsPut, IsTagOfVertex, IsTagFault}
+use Rattle.openflow_rules.specs.Gathered.{AreTagsPut, IsTagOfVertex}
 use Rattle.openflow_rules.proofs.Additions.{fault-wider, tags-next, tag-wider}
 use Rattle.openflow_rules.proofs.Steps.{mapped-next, mapped-split, taken-all}
 use Rattle.openflow_rules.proofs.tags.put_tags.Goals as goal

@@ -1,4 +1,4 @@
-use Rattle.std.proofs.Common.{◌<◌, length, arith}
+use Rattle.std.proofs.Common.{arith}
 use Rattle.openflow_rules.proofs.WalkSteps.{number-below, number-past}
 use Rattle.openflow_rules.proofs.walks.number_of.Goals as goal
 

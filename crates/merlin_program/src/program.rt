@@ -11,6 +11,7 @@ ghost use Rattle.cutoff_program.proofs.Forms.{is_program};
 ghost use Rattle.cutoff_program.proofs.Cutoffs.{has_cutoffs};
 ghost use Rattle.program_walks.specs.Solutions.{IsPointOfWalks, AreWalksOfPoint};
 ghost use Rattle.program_walks.specs.Loads.{AreSimpleWalks, IsValueOfWalks};
+ghost use Rattle.program_walks.specs.Bounds.{IsSeparateBound};
 ghost use Rattle.merlin_program.specs.Kept.{kept, variable_at};
 
 use crate::loads::value_of;
@@ -21,7 +22,7 @@ use cutoff_program::flow::{Problem, Variable};
 use integer_program::Program;
 use merlin_model::OutOfMemory;
 use merlin_model::policy::{Symbol, Value};
-use program_walks::{cost, point_of_walks, value_of_walks, walks_of_point};
+use program_walks::{cost, point_of_walks, separate_bound, value_of_walks, walks_of_point};
 use sqlite_items::Items;
 use std::alloc::Global;
 
@@ -133,6 +134,15 @@ impl MerlinProgram {
             variables,
             point,
         )
+    }
+
+    /// A value that no feasible assignment is below, from the paths of each guaranteed statement by itself, without a cutoff: for the
+    /// shortest walks the sum of their least costs, for the others the greatest of their least shares. Without a statement it is the
+    /// value of no walks. None exactly where some statement has no path.
+    pub fn separate_bound(&self, alloc: Global) -> Result<Option<Value>, OutOfMemory>
+        ensures { IfOk result (IsSeparateBound self.now.problem) }
+    {
+        separate_bound(alloc, &self.problem, self.variables.as_slice())
     }
 }
 

@@ -1,12 +1,12 @@
 -- Symbols take some variables, whatever they are.
-use Rattle.std.proofs.Common.{◌≡◌, ◌≢◌, ℕ, zero, suc, ◌+◌, ◌==◌, ◌⊎◌, inl, inr, Bool, true, false, List, [], ◌∷◌, drop, Option, None, Some, slice_get, refl, sym, ◌∙◌, ap, subst, arith}
+use Rattle.std.proofs.Common.{◌≡◌, ◌≢◌, ℕ, zero, suc, ◌==◌, ◌⊎◌, inl, inr, Bool, true, false, List, [], ◌∷◌, None, Some, slice_get, refl, sym, ap, subst, arith}
 use Rattle.merlin_model.specs.declared.policy.Symbol.{Symbol}
 use Rattle.merlin_model.specs.Networks.{Network}
 use Rattle.rules_model.specs.Products.{SymbolAutomaton, Vertex}
 use Rattle.rules_model.proofs.Ways.{vertex-same}
 use Rattle.cutoff_program.specs.declared.flow.Variable.{Variable}
 use Rattle.cutoff_program.proofs.Lists.{none_some, some_some}
-use Rattle.program_walks.specs.Marks.{symbol_in, LeadsToSymbol, IsNextBy, Follows, TrailsOf}
+use Rattle.program_walks.specs.Marks.{symbol_in, LeadsToSymbol, IsNextBy, Follows}
 
 module _ (net : Network) (a : SymbolAutomaton) where
   stand_at : Symbol → Vertex

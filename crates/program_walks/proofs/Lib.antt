@@ -9,3 +9,8 @@ pub mod Spelling
 pub mod Dropping
 pub mod Existing
 pub mod Valuing
+pub mod Ratios
+pub mod Widening
+pub mod Narrowing
+pub mod Adding
+pub mod Below

@@ -1,5 +1,5 @@
 -- The value of walks by the rates of flows, and that simple walks load links little.
-use Rattle.std.proofs.Common.{◌≡◌, ℕ, zero, suc, ◌+◌, ◌*◌, ◌^◌, ◌≤◌, ◌<◌, ◌⊎◌, inl, inr, Bool, true, List, [], ◌∷◌, map, zip, length, drop, Option, None, Some, slice_get, sum_by, refl, sym, ◌∙◌, ap, ap₂, subst, arith}
+use Rattle.std.proofs.Common.{◌≡◌, ℕ, suc, ◌+◌, ◌*◌, ◌^◌, ◌≤◌, inl, inr, true, List, [], ◌∷◌, map, zip, length, drop, sum_by, refl, sym, ◌∙◌, ap, ap₂, subst, arith}
 use Rattle.std.proofs.lemmas.List.Sums.{sum_by-cons}
 use Rattle.std.specs.List.{AllByRecursion, AllZip}
 use Rattle.merlin_model.specs.declared.network.DirectedLink.{DirectedLink}
@@ -15,13 +15,13 @@ use Rattle.merlin_model.specs.Policies.{Policy, IsOnPath}
 use Rattle.merlin_model.specs.Rates.{min_of, greatest_of}
 use Rattle.merlin_model.specs.Assignments.{IsAssignment, load, load_on, cost_on, value_of, greatest_ratio, ratio_value}
 use Rattle.merlin_model.proofs.WordLaws.{walk-goes_on}
-use Rattle.rules_model.specs.Products.{SymbolAutomaton, Vertex, start_of, ending_state}
+use Rattle.rules_model.specs.Products.{SymbolAutomaton, start_of, ending_state}
 use Rattle.cutoff_program.specs.Flows.{variables_of, last_of, rate_over, cost_of_variable, loads_from}
 use Rattle.cutoff_program.specs.declared.flow.Flow.{Flow}
 use Rattle.cutoff_program.specs.declared.flow.Problem.{Problem}
 use Rattle.cutoff_program.specs.declared.flow.Variable.{Variable}
 use Rattle.cutoff_program.specs.Limits.{IsProblem}
-use Rattle.cutoff_program.specs.Trails.{IsTrailOf, IsPath, ArePathsFrom, edges_of, point_with, sum_along, comes_to}
+use Rattle.cutoff_program.specs.Trails.{IsPath, ArePathsFrom, edges_of, point_with, sum_along, comes_to}
 use Rattle.cutoff_program.specs.Products.{IsProduct}
 use Rattle.cutoff_program.specs.Walks.{IsFlowOf, IsSimple, CrossesAlike, vertices_along}
 use Rattle.cutoff_program.proofs.Lists.{some_some, all_so, map_all}

@@ -4,3 +4,5 @@ pub mod Followed
 pub mod Marks
 pub mod Solutions
 pub mod Loads
+pub mod Bounds
+pub mod Widths

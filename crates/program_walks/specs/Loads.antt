@@ -1,5 +1,5 @@
 -- What walks put on links, and the value of walks.
-use Rattle.std.specs.Prelude.{ℕ, ◌≡◌, ◌≤◌, ◌+◌, ◌*◌, ◌^◌, List, [], ◌∷◌, map, length, sum_by}
+use Rattle.std.specs.Prelude.{ℕ, ◌≡◌, ◌≤◌, ◌+◌, ◌*◌, ◌^◌, List, ◌∷◌, map, sum_by}
 use Rattle.std.specs.List.{AllByRecursion, AllZip}
 use Rattle.merlin_model.specs.declared.network.DirectedLink.{DirectedLink}
 use Rattle.merlin_model.specs.declared.policy.Symbol.{Symbol}

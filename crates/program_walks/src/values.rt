@@ -83,7 +83,7 @@ fn greatest_load(problem: &Problem, walks: &[Items<Symbol>]) -> u64
 }
 
 /// The first of two ratios, unless the second is greater.
-fn greater(first: (u64, u64), second: (u64, u64)) -> (u64, u64)
+pub fn greater(first: (u64, u64), second: (u64, u64)) -> (u64, u64)
     ensures { result ≡ (if ratio_lt first second then second else first) }
 {
     if u128::from(first.0) * u128::from(second.1) < u128::from(second.0) * u128::from(first.1) {
@@ -112,7 +112,7 @@ fn greatest_ratio_of(problem: &Problem, walks: &[Items<Symbol>]) -> (u64, u64)
 }
 
 /// The value of walks, one for each flow, as the objective has it.
-fn value_by(problem: &Problem, walks: &[Items<Symbol>]) -> Value
+pub fn value_by(problem: &Problem, walks: &[Items<Symbol>]) -> Value
     requires walks { length walks.now ≡ length problem.now.flows }
     requires small { AreSmallLoads problem.now walks.now }
     ensures { result ≡ value_by_walks problem.now walks.now }

@@ -1,0 +1,13 @@
+pub mod Leading
+pub mod Growing
+pub mod Spreading
+pub mod Sorting
+pub mod Placing
+pub mod Searching
+pub mod Going
+pub mod Following
+pub mod Spotting
+pub mod Making
+pub mod Ordered
+pub mod Planned
+pub mod Entering

@@ -1,5 +1,5 @@
 -- What tables are made from, and what they are.
-use Rattle.std.specs.Prelude.{ℕ, ◌≡◌, ◌≢◌, ◌<◌, ◌↔◌, List, [], ◌∷◌, length, map, Option, None, Some, option_map, slice_get, Contains}
+use Rattle.std.specs.Prelude.{ℕ, suc, ◌≡◌, ◌≢◌, ◌<◌, ◌↔◌, List, [], ◌∷◌, length, map, Option, None, Some, option_map, slice_get, Contains}
 use Rattle.merlin_model.specs.declared.config.Rule.{Rule}
 use Rattle.merlin_model.specs.declared.config.Process.{Process}
 use Rattle.merlin_model.specs.Networks.{Network, IsHost, Pairwise}
@@ -22,6 +22,10 @@ owned_of c = record { source = c.source; dest = c.dest; cell = table_cell c.cell
 
 abbrev pub vertex_in : Step → Vertex
 vertex_in step = vertex_of step.vertex
+
+-- a key has this number, counted from 1
+abbrev pub IsTagNumber : List TagKey → TagKey → ℕ → Type 0
+IsTagNumber tags key n = (k : ℕ) × (slice_get tags k ≡ Some key) × (n ≡ suc k)
 
 -- the vertex at a place
 abbrev pub vertex_at : List Step → ℕ → Option Vertex

@@ -1,4 +1,4 @@
-use Rattle.std.proofs.Common.{◌≡◌, ◌≤◌, length, sym, arith}
+use Rattle.std.proofs.Common.{sym, arith}
 use Rattle.program_walks.proofs.Dropping.{crossings-last}
 use Rattle.program_walks.proofs.values.crossings_of.Goals as goal
 

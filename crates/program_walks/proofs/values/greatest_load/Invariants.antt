@@ -1,4 +1,4 @@
-use Rattle.std.proofs.Common.{◌≡◌, ◌≤◌, map, sum_by, drop, length}
+use Rattle.std.proofs.Common.{◌≡◌, ◌≤◌, map, drop, length}
 use Rattle.merlin_model.specs.Rates.{greatest_of}
 use Rattle.program_walks.specs.Loads.{load_on_link}
 use Rattle.program_walks.proofs.values.greatest_load.Given as goal

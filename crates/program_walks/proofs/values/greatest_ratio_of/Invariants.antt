@@ -1,4 +1,4 @@
-use Rattle.std.proofs.Common.{◌≡◌, ◌≤◌, map, sum_by, drop, length}
+use Rattle.std.proofs.Common.{◌≡◌, ◌≤◌, map, drop, length}
 use Rattle.merlin_model.specs.Assignments.{greatest_ratio}
 use Rattle.program_walks.specs.Loads.{ratio_on_link}
 use Rattle.program_walks.proofs.values.greatest_ratio_of.Given as goal

@@ -1,4 +1,4 @@
-use Rattle.std.proofs.Common.{refl, ap, ap₂, ◌*◌, sym, arith}
+use Rattle.std.proofs.Common.{refl, ap₂, ◌*◌, sym, arith}
 use Rattle.program_walks.specs.Loads.{cost_on_link}
 use Rattle.program_walks.proofs.Dropping.{cost-fits}
 use Rattle.program_walks.proofs.values.length_of.Goals as goal

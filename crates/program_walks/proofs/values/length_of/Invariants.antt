@@ -1,4 +1,4 @@
-use Rattle.std.proofs.Common.{◌≡◌, ◌≤◌, map, sum_by, drop, length}
+use Rattle.std.proofs.Common.{◌≡◌, ◌≤◌, sum_by, drop, length}
 use Rattle.program_walks.specs.Loads.{cost_on_link}
 use Rattle.program_walks.proofs.values.length_of.Given as goal
 

@@ -1,4 +1,4 @@
-use Rattle.std.proofs.Common.{◌≡◌, ◌∙◌}
+use Rattle.std.proofs.Common.{◌∙◌}
 use Rattle.program_walks.proofs.Valuing.{few-walks, small-loads, value-by-walks}
 use Rattle.program_walks.proofs.values.value_of_walks.Goals as goal
 

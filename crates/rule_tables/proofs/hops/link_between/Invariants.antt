@@ -1,0 +1,8 @@
+use Rattle.std.proofs.Common.{◌≡◌, ◌==◌, ◌&&◌, drop, find}
+use Rattle.merlin_model.specs.Networks.{directed_links_of}
+use Rattle.rule_tables.proofs.hops.link_between.Given as goal
+
+abbrev pub invariant-loop-link : goal.invariant-loop-link
+invariant-loop-link l =
+    find (λ w. (w.from == l.from) && (w.to == l.to)) (directed_links_of (drop l.link-index l.link-items))
+    ≡ find (λ w. (w.from == l.from) && (w.to == l.to)) (directed_links_of l.net.links)

@@ -13,3 +13,4 @@ mod Branching
 mod Steps
 mod Rooms
 mod WalkSteps
+mod Owning

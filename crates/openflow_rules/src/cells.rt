@@ -20,7 +20,7 @@ use std::alloc::Global;
 use topology::Topology;
 
 /// The addresses of the host at a location.
-fn host_address(net: &Topology, loc: usize) -> HostAddress
+pub fn host_address(net: &Topology, loc: usize) -> HostAddress
     requires { loc < length net.now.locations }
     ensures { result ≡ host_at net.now loc }
 {

@@ -6,6 +6,7 @@ mod entries;
 mod fault;
 mod gathering;
 mod groups;
+mod owned;
 mod preparing;
 mod rule_plan;
 mod sinks;

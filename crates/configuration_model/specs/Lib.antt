@@ -6,3 +6,4 @@ pub mod Hosts
 pub mod Queues
 pub mod Compiled
 pub mod Rows
+pub mod Pairs

@@ -1,3 +1,16 @@
 mod Rated
 mod Kinding
 mod Leading
+mod PlannedGroups
+mod Spanning
+mod Inner
+mod Counting
+mod Additions
+mod Keys
+mod Sinking
+mod Limits
+mod Branching
+mod Steps
+mod Rooms
+mod WalkSteps
+mod Owning

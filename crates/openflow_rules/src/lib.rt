@@ -1,7 +1,20 @@
 //! The rules of switches and the `process` lines of middleboxes for a checked policy.
 #![tactic(auto)]
 
+mod cells;
+mod entries;
+mod fault;
+mod gathering;
 mod groups;
+mod owned;
+mod preparing;
+mod rule_plan;
+mod sinks;
+mod spans;
+mod tags;
+mod walks;
 
+pub use fault::{MAX_ENTRIES, MAX_TAGS, RuleFault};
 pub use groups::{Groups, groups_of};
 pub use merlin_model::OutOfMemory;
+pub use rule_plan::{RulePlan, plan};

@@ -6,7 +6,8 @@ use Rattle.merlin_model.specs.Networks.{Network}
 use Rattle.merlin_model.specs.Policies.{Policy}
 use Rattle.configuration_model.specs.Hosts.{class_from, class_lines}
 use Rattle.queue_and_tc.specs.declared.standings.Standing.{Standing}
-use Rattle.queue_and_tc.specs.Shares.{Sources, sources_in, pair_cells, has_class, count_before, standing_of}
+use Rattle.configuration_model.specs.Pairs.{pair_cells}
+use Rattle.queue_and_tc.specs.Shares.{Sources, sources_in, has_class, count_before, standing_of}
 use Rattle.queue_and_tc.specs.HostTexts.{class_line}
 
 range-suc : (a n : ℕ) → range_with_len a (suc n) ≡ range_with_len a n ++ (a + n) ∷ []

@@ -16,7 +16,8 @@ use Rattle.configuration_model.specs.Hosts.{place_among, share_among, is_zero, i
 use Rattle.queue_and_tc.specs.declared.standings.Standing.{Standing}
 use Rattle.queue_and_tc.specs.declared.reaches.Host.{Host}
 use Rattle.queue_and_tc.specs.declared.reaches.Reach.{Reach}
-use Rattle.queue_and_tc.specs.Shares.{Sources, sources_in, pair_cells, has_class, count_before, standing_of, standings_of}
+use Rattle.configuration_model.specs.Pairs.{pair_cells}
+use Rattle.queue_and_tc.specs.Shares.{Sources, sources_in, has_class, count_before, standing_of, standings_of}
 use Rattle.queue_and_tc.specs.HostTexts.{host_in, hosts_in, reach_between, reaches_between, class_in, out_in, owner_in, match_between, class_lines_in, headed_by, reading_by, reading_in, readings_in, output_in, outputs_in, host_lines_at}
 use Rattle.queue_and_tc.proofs.ClassNumbers.{classes-from, number-from}
 

@@ -4,11 +4,9 @@ use Rattle.std.specs.List.{range_with_len}
 use Rattle.std.specs.declared.alloc.Global.{Global}
 use Rattle.merlin_model.specs.Networks.{Network, IsHost}
 use Rattle.merlin_model.specs.Policies.{Policy, paths_of}
-use Rattle.predicate_split.specs.declared.pair_cells.Cell.{Cell}
-use Rattle.predicate_split.specs.Cells.{cells_between}
 use Rattle.predicate_split.specs.declared.fault.TheConstants.{MAX_CELLS}
-use Rattle.configuration_model.specs.Checked.{preds_of}
-use Rattle.configuration_model.specs.Hosts.{host_at, is_out, is_classed, rate_at, ceiling_at}
+use Rattle.configuration_model.specs.Pairs.{pair_cells}
+use Rattle.configuration_model.specs.Hosts.{is_out, is_classed, rate_at, ceiling_at}
 use Rattle.queue_and_tc.specs.declared.standings.Standing.{Standing}
 
 abbrev pub Sources : Type 0
@@ -17,10 +15,6 @@ Sources = List (Vec ℕ Global)
 -- the live sources of each statement, the default's last
 abbrev pub sources_in : Sources → List (List ℕ)
 sources_in sources = map (λ hosts. hosts.items) sources
-
--- the cells between two hosts, by their locations
-abbrev pub pair_cells : Network → Policy → ℕ → ℕ → List Cell
-pair_cells net policy s d = cells_between (preds_of policy) (host_at net s) (host_at net d)
 
 -- no two hosts have more cells than there may be
 abbrev pub HasFewCells : Network → Policy → Type 0

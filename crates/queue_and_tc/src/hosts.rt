@@ -4,7 +4,8 @@ ghost use Rattle.std.specs.Prelude.{◌≡◌, ◌≤◌, ◌<◌, ◌^◌, ◌-
 ghost use Rattle.std.specs.List.{flat_map};
 ghost use Rattle.merlin_model.specs.Policies.{paths_of};
 ghost use Rattle.configuration_model.specs.Hosts.{host_lines as lines_of_hosts};
-ghost use Rattle.queue_and_tc.specs.Shares.{sources_in, pair_cells, HasFewCells};
+ghost use Rattle.configuration_model.specs.Pairs.{pair_cells};
+ghost use Rattle.queue_and_tc.specs.Shares.{sources_in, HasFewCells};
 ghost use Rattle.queue_and_tc.specs.HostTexts.{host_lines_at};
 
 use crate::host_texts::add_lines;

@@ -6,7 +6,7 @@ ghost use Rattle.merlin_model.specs.Policies.{Policy};
 ghost use Rattle.merlin_model.specs.Predicates.{IsPred};
 ghost use Rattle.configuration_model.specs.Checked.{preds_of};
 ghost use Rattle.configuration_model.specs.Cells.{AreAllCells};
-ghost use Rattle.queue_and_tc.specs.Shares.{pair_cells};
+ghost use Rattle.configuration_model.specs.Pairs.{pair_cells};
 
 /// The cells of two hosts are what tables and host lines ask for: the first that fits a packet names the statement that it belongs to, they stand by
 /// falling priority, and of one priority at most one fits a packet.

@@ -5,7 +5,7 @@ use product_graph::Vertex;
 use sqlite_items::Items;
 
 /// What a tag stands for: a group, and the state and the function of a vertex.
-#[derive(Clone, Copy)]
+#[derive(Clone, Copy, PartialEq, Eq, PartialOrd, Ord)]
 pub struct TagKey {
     pub group: usize,
     pub state: usize,

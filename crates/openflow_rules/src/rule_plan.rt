@@ -1,0 +1,71 @@
+//! A plan of rules: what is made once for a checked policy, before walks are chosen.
+
+ghost use Rattle.std.specs.Prelude.{◌≡◌, IfOk, IfErr};
+ghost use Rattle.topology.specs.Symbols.{network_symbols};
+ghost use Rattle.merlin_model.specs.Assignments.{AreAllEnds};
+ghost use Rattle.policy_check.specs.Checked.{HasAutomata};
+ghost use Rattle.openflow_rules.specs.Planning.{IsWithinLimits, PassesLimit};
+
+use crate::fault::RuleFault;
+use crate::preparing::{PlanParts, prepare};
+use merlin_model::policy::Ends;
+use policy_check::Checked;
+use std::alloc::Global;
+use std::marker::Model;
+use topology::Topology;
+
+/// The groups, tags and branches of a checked policy over a network.
+#[derive(Drop)]
+pub struct RulePlan<'a> {
+    net: &'a Topology,
+    checked: &'a Checked,
+    ends: &'a [Ends],
+    parts: PlanParts,
+}
+
+impl<'a> Model for RulePlan<'a> {
+    ghost use Rattle.std.specs.Coded.{codes};
+    ghost use Rattle.merlin_model.specs.contracts.policy.Path as path;
+    ghost use Rattle.merlin_model.specs.contracts.policy.Pred as pred;
+    ghost use Rattle.openflow_rules.specs.Planning.{Planned};
+
+    ghost Value = { Planned };
+
+    ghost coded = { Prim.hlevel (codes, path.the_row.coded, pred.the_row.coded) };
+
+    ghost use Rattle.openflow_rules.specs.PlanParts.{ArePlanParts};
+
+    ghost view = { λ p. record { net = p.net.now; checked = p.checked.now; ends = p.ends.now } };
+
+    ghost invariant = { λ p. ArePlanParts p.net.now p.checked.now p.ends.now p.parts };
+}
+
+/// The plan of a checked policy with these ends, if its tags, cells and entries are within their
+/// limits.
+///
+/// # Errors
+/// The first limit that is passed: tags before cells before entries.
+pub fn plan<'a>(
+    alloc: Global,
+    checked: &'a Checked,
+    ends: &'a [Ends],
+    net: &'a Topology,
+) -> Result<RulePlan<'a>, RuleFault>
+    requires automata { HasAutomata (network_symbols net.now) checked.now }
+    requires ends { AreAllEnds net.now checked.now.policy ends.now }
+    ensures ok { IfOk result (λ plan. plan ≡ record {
+      net = net.now;
+      checked = checked.now;
+      ends = ends.now;
+    }) }
+    ensures limits { IfOk result (λ _. IsWithinLimits net.now checked.now ends.now) }
+    ensures err { IfErr result (PassesLimit net.now checked.now ends.now) }
+{
+    let parts = prepare(alloc, checked, ends, net)?;
+    Ok(RulePlan {
+        net,
+        checked,
+        ends,
+        parts,
+    })
+}

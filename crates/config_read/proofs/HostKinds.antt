@@ -21,7 +21,7 @@ use Rattle.config_read.proofs.Stars.{AreLines}
 use Rattle.config_read.proofs.LineKinds.{words_free}
 
 -- a test that a text has no such byte
-pub lacks_byte : ℕ → List ℕ → Bool
+unfoldable pub lacks_byte : ℕ → List ℕ → Bool
 lacks_byte byte [] = true
 lacks_byte byte (c ∷ cs) = cond (c == byte) false (lacks_byte byte cs)
 

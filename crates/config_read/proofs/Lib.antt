@@ -5,3 +5,10 @@ pub mod HostKinds
 pub mod TreeTails
 pub mod Bodies
 pub mod HeadTexts
+pub mod HeadLines
+pub mod VersionLoads
+pub mod FirstLines
+pub mod Wholes
+pub mod Ends
+pub mod PrintedLines
+pub mod Standing

@@ -98,6 +98,9 @@ symbols_free : (net : Network) (symbols : List Symbol) → AllByRecursion (IsLin
 symbols_free net [] all = tt
 symbols_free net (s ∷ ss) all = (symbol_free 10 net s (omega arith) all.0, symbols_free net ss all.1)
 
+pub symbols_lack : (net : Network) (symbols : List Symbol) → AllByRecursion (IsLineSymbol net) symbols → Free 10 (join_with_byte 32 (map (symbol_text net) symbols))
+symbols_lack net symbols all = words_free (map (symbol_text net) symbols) (symbols_free net symbols all)
+
 pub walk_lines : (net : Network) → AreLines (walk_line net) (IsWalkLine net)
 walk_lines net = record {
   front = walk_text net;

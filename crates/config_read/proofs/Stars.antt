@@ -115,6 +115,20 @@ star_wrong {V} {W} line Is text_of IsOther lines apart text vs rest left t g = r
     go_on last more l h x y (v ∷ later) other each is e =
         begun v (flat_map line later ++ (text_of other ++ x)) last more y each.0 l h g.lines (sym (append_assoc (line v) (flat_map line later) (text_of other ++ x)) ∙ e)
 
+-- What stands behind lines of a kind and a text of the form is the same, however the two are read.
+pub star_rest : {V W : Type 0} (line : V → List ℕ) (Is : V → Type 0) (text_of : W → List ℕ) (IsOther : W → Type 0) → AreLines line Is → AreApart line Is text_of IsOther → ((a b : W) (x y : List ℕ) → IsOther a → IsOther b → text_of a ++ x ≡ text_of b ++ y → x ≡ y) →
+    (p q : List V × W) (x y : List ℕ) → IsStar Is IsOther p → IsStar Is IsOther q → star_text line text_of p ++ x ≡ star_text line text_of q ++ y → x ≡ y
+star_rest {V} {W} line Is text_of IsOther lines apart once p q x y f g e =
+    by p.0 q.0 f.0 g.0 (sym (append_assoc (flat_map line p.0) (text_of p.1) x) ∙ e ∙ append_assoc (flat_map line q.0) (text_of q.1) y)
+  where
+    by : (vs ws : List V) → AllByRecursion Is vs → AllByRecursion Is ws → flat_map line vs ++ (text_of p.1 ++ x) ≡ flat_map line ws ++ (text_of q.1 ++ y) → x ≡ y
+    by [] [] fs gs h = once p.1 q.1 x y f.1 g.1 h
+    by [] (w ∷ ws) fs gs h = absurd (apart w p.1 (flat_map line ws ++ (text_of q.1 ++ y)) x gs.0 f.1 (sym (append_assoc (line w) (flat_map line ws) (text_of q.1 ++ y)) ∙ sym h))
+    by (v ∷ vs) [] fs gs h = absurd (apart v q.1 (flat_map line vs ++ (text_of p.1 ++ x)) y fs.0 g.1 (sym (append_assoc (line v) (flat_map line vs) (text_of p.1 ++ x)) ∙ h))
+    by (v ∷ vs) (w ∷ ws) fs gs h =
+        by vs ws fs.1 gs.1 (line_rest line Is lines v w (flat_map line vs ++ (text_of p.1 ++ x)) (flat_map line ws ++ (text_of q.1 ++ y)) fs.0 gs.0
+        (sym (append_assoc (line v) (flat_map line vs) (text_of p.1 ++ x)) ∙ h ∙ append_assoc (line w) (flat_map line ws) (text_of q.1 ++ y)))
+
 -- Behind such lines a text of the form is the whole, and one text has one.
 pub star_once : {V W : Type 0} (line : V → List ℕ) (Is : V → Type 0) (text_of : W → List ℕ) (IsOther : W → Type 0) → AreLines line Is → AreApart line Is text_of IsOther →
     ((v w : V) → Is v → Is w → line v ≡ line w → v ≡ w) → ((a b : W) (x y : List ℕ) → IsOther a → IsOther b → text_of a ++ x ≡ text_of b ++ y → (a ≡ b) × (x ≡ y)) →

@@ -1,4 +1,5 @@
 pub mod Sections
+pub mod Bodies
 pub mod Tails
 pub mod Heads
 pub mod Results

@@ -1,15 +1,14 @@
 -- Which texts are results over a network: the first two lines, walks and loads, the configuration, and a tree.
-use Rattle.std.specs.Prelude.{ℕ, ◌≡◌, Bool, true, false, List, [], ◌∷◌, ◌++◌, length, codes}
+use Rattle.std.specs.Prelude.{ℕ, ◌≡◌, Bool, true, false, List, [], ◌++◌, length, codes}
 use Rattle.std.specs.List.{AllByRecursion, flat_map}
 use Rattle.merlin_model.specs.declared.config.Config.{Config}
 use Rattle.merlin_model.specs.declared.certificate.Tree.{Tree}
 use Rattle.merlin_model.specs.Networks.{Network}
 use Rattle.merlin_base.specs.NodeTexts.{nodes_text}
-use Rattle.config_text.specs.Result.{objective_word}
 use Rattle.config_lines.specs.Lines.{rule_line, IsRuleLine, process_line, IsProcessLine, queue_line, IsQueueLine, host_line, IsHostLine, load_line, IsLoadLine, walk_line, IsWalkLine}
 use Rattle.config_read.specs.Sections.{IsEmptyConfig}
 use Rattle.config_read.specs.Tails.{IsTree}
-use Rattle.config_read.specs.Heads.{first_line, IsVersion, IsWrittenValue}
+use Rattle.config_read.specs.Heads.{first_line, IsVersion, IsWrittenValue, least_then, infeasible_then}
 use Rattle.config_read.specs.declared.result.Head.{Head}
 use Rattle.config_read.specs.declared.result.Head.TheVariants.{Least, Infeasible}
 use Rattle.config_read.specs.declared.result.ResultText.{ResultText}
@@ -21,8 +20,8 @@ is_feasible (Infeasible objective) = false
 -- the other lines before the configuration
 abbrev pub lines_of_head : Network → Head → List ℕ
 lines_of_head net (Least objective value walks loads) =
-    codes "objective " ++ (objective_word objective ++ 32 ∷ (value ++ 10 ∷ (flat_map (walk_line net) walks ++ flat_map (load_line net) loads)))
-lines_of_head net (Infeasible objective) = codes "objective " ++ (objective_word objective ++ 10 ∷ [])
+    least_then objective value (flat_map (walk_line net) walks ++ flat_map (load_line net) loads)
+lines_of_head net (Infeasible objective) = infeasible_then objective []
 
 abbrev pub lines_of : Network → Config → List ℕ
 lines_of net config =

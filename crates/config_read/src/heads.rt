@@ -6,13 +6,13 @@ ghost use Rattle.merlin_model.specs.declared.policy.Objective.{Objective as Stat
 ghost use Rattle.config_text.specs.Loads.{ratio_text};
 ghost use Rattle.config_text.specs.Result.{objective_word};
 ghost use Rattle.config_lines.specs.Words.{HasFewDigits};
-ghost use Rattle.config_read.specs.Heads.{first_line, IsVersion, IsWrittenValue};
+ghost use Rattle.config_read.specs.Heads.{first_line, IsVersion, IsWrittenValue, least_then};
 
 use merlin_base::{read_number, split_at_byte, strip_front};
 use merlin_model::policy::Objective;
 
 /// The version and whether there is an assignment, by the first line, and what stands behind that line.
-pub fn read_first_line(text: &[u8]) -> Option<((u8, bool), &[u8])>
+pub(crate) fn read_first_line(text: &[u8]) -> Option<((u8, bool), &[u8])>
     ensures some { IfSome result (λ r. (text.now ≡ first_line r.0.0 r.0.1 ++ r.1.now)
         × IsVersion r.0.0) }
     ensures none { IfNone result ((version : ℕ) (feasible : Bool) (rest : List ℕ) →
@@ -50,7 +50,7 @@ fn objective_of(word: &[u8]) -> Option<Objective>
 }
 
 /// The objective between the first word of the line and this byte, and what stands behind the byte.
-pub fn objective_then(text: &[u8], byte: u8) -> Option<(Objective, &[u8])>
+pub(crate) fn objective_then(text: &[u8], byte: u8) -> Option<(Objective, &[u8])>
     requires { byte < 48 }
     ensures some { IfSome result (λ r.
         text.now ≡ codes "objective " ++ (objective_word r.0 ++ byte ∷ r.1.now)) }
@@ -83,8 +83,8 @@ fn is_value(word: &[u8]) -> bool
     }
 }
 
-/// The value before the end of the line, as it stands there, and what stands behind the line.
-pub fn value_then(text: &[u8]) -> Option<(&[u8], &[u8])>
+// The value before the end of the line, as it stands there, and what stands behind the line.
+fn value_then(text: &[u8]) -> Option<(&[u8], &[u8])>
     ensures some { IfSome result (λ r. (text.now ≡ r.0.now ++ 10 ∷ r.1.now)
         × IsWrittenValue r.0.now) }
     ensures none { IfNone result ((value rest : List ℕ) → IsWrittenValue value →
@@ -96,4 +96,16 @@ pub fn value_then(text: &[u8]) -> Option<(&[u8], &[u8])>
     } else {
         None
     }
+}
+
+/// The objective and the value, as it stands there, by the second line of a result with an assignment, and what stands behind that line.
+pub(crate) fn read_least_line(text: &[u8]) -> Option<(Objective, &[u8], &[u8])>
+    ensures some { IfSome result (λ r. (text.now ≡ least_then r.0 r.1.now r.2.now)
+        × IsWrittenValue r.1.now) }
+    ensures none { IfNone result ((objective : Stated) (value rest : List ℕ) →
+        IsWrittenValue value → text.now ≡ least_then objective value rest → ⊥) }
+{
+    let (objective, rest) = objective_then(text, b' ')?;
+    let (value, rest) = value_then(rest)?;
+    Some((objective, value, rest))
 }

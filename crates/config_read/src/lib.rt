@@ -1,14 +1,17 @@
-//! Results as texts: the first lines, walks and loads, the configuration, and where the nodes of the certificate begin.
+//! Results as texts: what a whole text stands for, or the first of its lines that is wrong.
 #![tactic(auto)]
 
+mod body;
+mod fault;
 mod heads;
+pub mod laws;
+mod reader;
 mod result;
 mod sections;
 mod tail;
 
 pub use config_text::Load;
-pub use heads::{objective_then, read_first_line, value_then};
+pub use fault::ConfigFault;
 pub use merlin_model::policy::{Objective, Symbol};
+pub use reader::read;
 pub use result::{Head, ResultText};
-pub use sections::{read_config, read_loads, read_walks};
-pub use tail::skip_tree;

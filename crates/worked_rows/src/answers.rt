@@ -4,7 +4,9 @@ use crate::lines::Lines;
 use crate::policies::Asked;
 use crate::store::{Store, content, memory};
 use crate::texts::parted;
-use crate::{comparisons, deliveries, networks, outside, packets, policies, tokens, trees};
+use crate::{
+    comparisons, deliveries, networks, outside, packets, policies, results, tokens, trees,
+};
 use merlin::run;
 use merlin_base::{MemoryFiles, MemorySink, OutOfMemory};
 use packet_model::Packet;
@@ -121,6 +123,8 @@ pub fn answer_to(
         "topology" => networks::answer_to(alloc, rest, store, networks::Asked::Whole, out),
         "compare" => comparisons::answer_to(alloc, rest, store, out),
         "delivery" => deliveries::answer_to(alloc, rest, store, out),
+        "result" => results::answer_to(alloc, rest, store, results::Asked::Whole, out),
+        "line" => results::answer_to(alloc, rest, store, results::Asked::Line, out),
         "tree" => trees::answer_to(alloc, rest, store, out),
         _ => run_program(alloc, line, store, failing_reads, failing_writes, out),
     }

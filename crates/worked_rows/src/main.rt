@@ -12,6 +12,7 @@ mod outside;
 mod packets;
 mod policies;
 mod rates;
+mod results;
 mod row;
 mod script;
 mod sizes;

@@ -7,7 +7,7 @@ use crate::store::{Store, content};
 use crate::texts::parted;
 use merlin_base::{Name, ip_text, mac_text};
 use merlin_model::network::Place;
-use merlin_model::policy::Field;
+use merlin_model::policy::{Field, Symbol};
 use std::alloc::Global;
 use topology::{FnDecl, HostAddress, NetFault, Topology, read};
 
@@ -110,7 +110,16 @@ fn add_function(out: &mut Lines, function: &FnDecl) {
     out.add("\n");
 }
 
-// A line for each packet function, and one for all symbols where there are functions: a location, and a function behind a colon.
+/// A symbol behind a blank: its location, and a function behind a colon.
+pub fn add_symbol(out: &mut Lines, symbol: Symbol) {
+    out.add_numbers(&[symbol.loc as u64]);
+    if let Some(function) = symbol.fun {
+        out.add(":");
+        out.add_number(function as u64);
+    }
+}
+
+// A line for each packet function, and one for all symbols where there are functions.
 fn add_functions(out: &mut Lines, net: &Topology) {
     for function in net.functions() {
         add_function(out, function);
@@ -120,11 +129,7 @@ fn add_functions(out: &mut Lines, net: &Topology) {
     }
     out.add("symbols");
     for symbol in net.symbols() {
-        out.add_numbers(&[symbol.loc as u64]);
-        if let Some(function) = symbol.fun {
-            out.add(":");
-            out.add_number(function as u64);
-        }
+        add_symbol(out, *symbol);
     }
     out.add("\n");
 }

@@ -1,6 +1,5 @@
 -- What is left of the room for cells, and what no longer fits.
 use Rattle.std.proofs.Common.{◌≡◌, ◌<◌, ◌≤◌, ◌+◌, ◌-◌, ℕ, zero, suc, subst, arith}
-use Rattle.predicate_split.specs.declared.fault.TheConstants.{MAX_CELLS}
 use Rattle.negotiator.specs.declared.fault.RefineFault.{RefineFault}
 use Rattle.negotiator.specs.declared.fault.RefineFault.TheVariants.{TooManyCells, PathWider, CapWider, ReserveWider, OutOfMemory}
 use Rattle.negotiator.specs.CellCounts.{sum_to}

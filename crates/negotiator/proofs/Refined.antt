@@ -1,26 +1,23 @@
 -- From the rules to the whole of refinement.
-use Rattle.std.proofs.Common.{◌≡◌, ◌<◌, ◌≤◌, ℕ, List, [], ◌∷◌, length, Contains, Result, Ok, Err, OnOk, IfErr, inl, inr, refl, sym, ◌∙◌, ap, subst, arith}
-use Rattle.std.specs.List.{AllByRecursion}
-use Rattle.merlin_model.specs.declared.policy.Bound.TheVariants.{Max, Min}
+use Rattle.std.proofs.Common.{◌<◌, ℕ, List, [], ◌∷◌, length, Contains, Result, Ok, Err, OnOk, IfErr, inl, inr, refl, subst, arith}
 use Rattle.merlin_model.specs.declared.policy.Symbol.{Symbol}
 use Rattle.merlin_model.specs.declared.policy.Term.{Term}
-use Rattle.merlin_model.specs.Packets.{Packet}
 use Rattle.merlin_model.specs.Networks.{Network, AreDifferent}
 use Rattle.merlin_model.specs.Policies.{Policy, paths_of}
 use Rattle.merlin_model.specs.Rates.{ids_of}
 use Rattle.merlin_model.proofs.Members.{In, in_from, in_to, all_in}
 use Rattle.predicate_split.specs.declared.fault.TheConstants.{MAX_CELLS}
 use Rattle.policy_check.specs.Checked.{IsSoundPolicy}
-use Rattle.refinement_model.specs.Refinement.{Refines, Touches}
+use Rattle.refinement_model.specs.Refinement.{Refines}
 use Rattle.negotiator.specs.declared.contacts.Contact.{Contact}
 use Rattle.negotiator.specs.declared.fault.RefineFault.{RefineFault}
 use Rattle.negotiator.specs.declared.fault.RefineFault.TheVariants.{TooManyCells, PathWider, CapWider, ReserveWider, OutOfMemory}
 use Rattle.negotiator.specs.Amounts.{KeepsAllCaps, KeepsAllReserves, IsWithinReserves}
-use Rattle.negotiator.specs.CellCounts.{cell_count, HasFewCells}
+use Rattle.negotiator.specs.CellCounts.{cell_count}
 use Rattle.negotiator.specs.Contacts.{preds_of_both}
 use Rattle.negotiator.specs.Marks.{AreWithin}
 use Rattle.negotiator.specs.Refusals.{PassesRoom, RefusesChild}
-use Rattle.negotiator.specs.Wider.{KeepsPaths, AreContacts, contact}
+use Rattle.negotiator.specs.Wider.{KeepsPaths, AreContacts}
 use Rattle.negotiator.proofs.InOrder.{all-kept}
 
 pub if-err : {X F : Type 0} (r : Result X F) (P Q : F → Type 0) → ((f : F) → P f → Q f) → IfErr r P → IfErr r Q

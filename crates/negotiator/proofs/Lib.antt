@@ -2,3 +2,8 @@ pub mod StandingIn
 pub mod Walking
 pub mod Finding
 pub mod Straying
+pub mod Counted
+pub mod MarkedPlaces
+pub mod Summing
+pub mod InOrder
+pub mod Refined

@@ -6,6 +6,7 @@ use Rattle.merlin_model.specs.Networks.{Network}
 use Rattle.merlin_model.specs.Policies.{Policy, IsAllowed}
 use Rattle.refinement_model.specs.Refinement.{Touches}
 use Rattle.language_check.specs.Inclusion.{IsLessWord}
+use Rattle.negotiator.specs.declared.comparing.Comparison.{Comparison}
 use Rattle.negotiator.specs.declared.contacts.Contact.{Contact}
 use Rattle.negotiator.specs.declared.paths.WidePath.{WidePath}
 
@@ -42,3 +43,8 @@ module _ (net : Network) (parent child : Policy) where
   -- these are the statements that touch, each of the child with one of the parent
   abbrev pub AreContacts : List Contact → Type 0
   AreContacts contacts = (i j : ℕ) → Contains contacts (contact i j) ↔ Touches net parent child i j
+
+  -- these are the statements that touch, and this is what the child allows beside its parent
+  pub record IsComparison (symbols : List Symbol) (comparison : Comparison) : Type 0 where
+    pub touching : AreContacts comparison.contacts.items
+    pub paths : MatchOption comparison.wide KeepsPaths (IsWidePath symbols)

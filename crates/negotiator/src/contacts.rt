@@ -15,6 +15,7 @@ use merlin_model::OutOfMemory;
 use merlin_model::network::HostAddress;
 use merlin_model::policy::{Field, Pred};
 use packet_model::Packet;
+use policy_check::Checked;
 use predicate_logic::holds;
 use sqlite_items::Items;
 use std::alloc::Global;
@@ -294,14 +295,18 @@ fn copy_preds(alloc: Global, preds: &[Pred], copies: &mut Items<Pred>) -> Result
     Ok(())
 }
 
-// The predicates of both policies.
-fn both_preds(alloc: Global, case: &Case<'_>) -> Result<Items<Pred>, OutOfMemory>
+/// The predicates of both policies.
+pub(crate) fn both_preds(
+    alloc: Global,
+    parent: &Checked,
+    child: &Checked,
+) -> Result<Items<Pred>, OutOfMemory>
     ensures { IfOk result (λ preds. preds ≡
-        preds_of_both case.now.parent.now.policy case.now.child.now.policy) }
+        preds_of_both parent.now.policy child.now.policy) }
 {
     let mut preds = Items::new(alloc);
-    copy_preds(alloc, case.child.preds(), &mut preds)?;
-    copy_preds(alloc, case.parent.preds(), &mut preds)?;
+    copy_preds(alloc, child.preds(), &mut preds)?;
+    copy_preds(alloc, parent.preds(), &mut preds)?;
     Ok(preds)
 }
 
@@ -312,7 +317,7 @@ pub(crate) fn find(alloc: Global, case: &Case<'_>) -> Result<Findings, OutOfMemo
         case.now.parent.now.policy case.now.child.now.policy) }
 {
     let _statements = (case.child.statements(), case.parent.statements());
-    let preds = both_preds(alloc, case)?;
+    let preds = both_preds(alloc, case.parent, case.child)?;
     let mut found = Findings {
         contacts: Vec::new(alloc),
         wide: None,

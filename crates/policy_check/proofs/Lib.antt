@@ -7,3 +7,4 @@ pub mod Keeping
 pub mod Destinations
 pub mod Guaranteed
 pub mod Matched
+pub mod Small

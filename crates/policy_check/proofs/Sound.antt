@@ -1,17 +1,18 @@
 -- A policy that keeps all rules is sound.
-use Rattle.std.proofs.Common.{◌≡◌, ◌<◌, ◌+◌, ◌⊎◌, ◌||◌, ◌&&◌, inl, inr, ℕ, zero, suc, Bool, true, false, cond, ltb, List, [], ◌∷◌, ◌++◌, length, map, Contains, Option, None, Some, slice_get, sum_by, refl, sym, ◌∙◌, ap, subst, arith}
+use Rattle.std.proofs.Common.{◌≡◌, ◌<◌, ◌≤◌, ◌+◌, ◌⊎◌, ◌||◌, ◌&&◌, inl, inr, ℕ, zero, suc, Bool, true, false, cond, ltb, List, [], ◌∷◌, ◌++◌, length, map, Contains, Option, None, Some, slice_get, sum_by, refl, sym, ◌∙◌, ap, subst, arith}
 use Rattle.std.specs.List.{AllByRecursion, list_any}
 use Rattle.std.specs.Option.{option_map, option_to_list}
 use Rattle.std.specs.Prelude.{bytes_eq}
 use Rattle.std.proofs.lemmas.Slice.Eq.{bytes_eq-Decides}
 use Rattle.std.proofs.lemmas.Bool.{ltb-false}
 use Rattle.std.proofs.lemmas.Bool.Decides.{Decides-ltb}
+use Rattle.merlin_model.specs.declared.limits.TheConstants.{MAX_RATE}
 use Rattle.merlin_model.specs.declared.policy.Path.{Path}
 use Rattle.merlin_model.specs.declared.policy.Term.{Term}
 use Rattle.merlin_model.specs.Packets.{Packet}
 use Rattle.merlin_model.specs.Networks.{Network, AreDifferent}
 use Rattle.merlin_model.specs.Predicates.{holds, IsPred}
-use Rattle.merlin_model.specs.Policies.{Policy, Statement, AreDisjoint, IsTotal, match_among}
+use Rattle.merlin_model.specs.Policies.{Policy, Statement, AreDisjoint, IsTotal, match_among, paths_of}
 use Rattle.merlin_model.specs.Rates.{ids_of, constant_of_part, HasRoomForGuarantees}
 use Rattle.merlin_model.proofs.Members.{In as Is, in_to}
 use Rattle.rate_formula.specs.Usage.{ids_in}
@@ -20,10 +21,13 @@ use Rattle.localise.proofs.Clear.{all_from, clear_from, known_in}
 use Rattle.localise.proofs.Repeated.{differ}
 use Rattle.predicate_split.specs.Least.{NoneHolds}
 use Rattle.predicate_split.specs.Overlaps.{ShareNothing}
+use Rattle.policy_grammar.specs.declared.written.RawPath.{RawPath}
 use Rattle.policy_grammar.specs.NumberedPaths.{numbered}
 use Rattle.policy_expansion.specs.declared.policy.Statement.{Statement as NamedStatement}
 use Rattle.policy_expansion.specs.declared.policy.Policy.{Policy as NamedPolicy}
-use Rattle.policy_expansion.specs.Kept.{IsExpanded, IsWellFormed}
+use Rattle.policy_expansion.specs.declared.limits.TheConstants.{MAX_STATEMENTS}
+use Rattle.policy_expansion.specs.Faults.{count_of_default}
+use Rattle.policy_expansion.specs.Kept.{IsExpanded, IsTerm, IsWellFormed}
 use Rattle.policy_names.specs.Names.{meaning_of}
 use Rattle.policy_check.specs.Numbered.{numbered_statement, numbered_policy}
 use Rattle.policy_check.specs.Rules.{listed_ids, listed_preds, LeavesNothing, rate_faults}
@@ -116,6 +120,24 @@ each : {X : Type 0} (P Q : X → Type 0) (xs : List X) → ((x : X) → P x → 
 each P Q [] f h = tt
 each P Q (x ∷ xs) f h = (f x h.0, each P Q xs f h.1)
 
+-- Sizes.
+
+default-counts : (net : Network) (d : Option RawPath) → length (option_to_list (option_map (numbered (meaning_of net)) d)) ≡ count_of_default d
+default-counts net None = refl
+default-counts net (Some path) = refl
+
+as-many : (net : Network) (ss : List NamedStatement) → length (map (numbered_statement net) ss) ≡ length ss
+as-many net [] = refl
+as-many net (s ∷ ss) = ap suc (as-many net ss)
+
+few-paths : (net : Network) (raw : NamedPolicy) → IsExpanded raw → length (paths_of (numbered_policy net raw)) ≤ MAX_STATEMENTS
+few-paths net raw expanded =
+    let paths = paths-many (map (numbered_statement net) raw.statements) (option_map (numbered (meaning_of net)) raw.default_path) in
+    let default = default-counts net raw.default_path in
+    let statements = as-many net raw.statements in
+    let few = expanded.few in
+    omega (arith, few, statements, default, paths)
+
 -- All together.
 pub sound : (net : Network) (raw : NamedPolicy) → IsExpanded raw → IsWellFormed raw → ShareNothing (listed_preds raw) → LeavesNothing raw → rate_faults raw ≡ [] → ((policy : Policy) → faults policy.terms (ids_in policy) ≡ [] → HasRoomForGuarantees policy) →
     IsSoundPolicy (numbered_policy net raw)
@@ -133,4 +155,6 @@ sound net raw expanded formed apart leaves none room =
       once = each (λ term. repeats_in (ids_of term) ≡ []) (λ term. AreDifferent (ids_of term)) policy.terms (λ term e. differ (ids_of term) e) terms.different;
       constants = each (λ term. has_large_constants term ≡ false) HasRoomForConstants policy.terms constants-fit terms.small;
       room = room policy clear;
+      few = few-paths net raw expanded;
+      rates = each IsTerm (λ term. term.rate ≤ MAX_RATE) raw.formula.terms (λ term h. h.2) formed.terms;
     }

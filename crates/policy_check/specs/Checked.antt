@@ -1,6 +1,7 @@
 -- A policy that was checked, with its automata, and what is so of it.
-use Rattle.std.specs.Prelude.{ℕ, ◌↔◌, ◌≡◌, ◌≤◌, List, true, Contains, Option, Ok, Some, slice_get, option_and_then, sum_by}
+use Rattle.std.specs.Prelude.{ℕ, ◌↔◌, ◌≡◌, ◌≤◌, List, true, length, Contains, Option, Ok, Some, slice_get, option_and_then, sum_by}
 use Rattle.std.specs.List.{AllByRecursion}
+use Rattle.merlin_model.specs.declared.limits.TheConstants.{MAX_RATE}
 use Rattle.merlin_model.specs.declared.policy.Path.{Path}
 use Rattle.merlin_model.specs.declared.policy.Symbol.{Symbol}
 use Rattle.merlin_model.specs.declared.policy.Term.{Term}
@@ -11,6 +12,7 @@ use Rattle.merlin_model.specs.Rates.{is_max, ids_of, constant_of_part, HasRoomFo
 use Rattle.rate_formula.specs.Usage.{ids_in}
 use Rattle.path_automaton.specs.Automata.{AutomatonTables, AcceptsWordsOf, Spells, accepts, state_after_numbers}
 use Rattle.path_automaton.specs.Built.{IsBuilt}
+use Rattle.policy_expansion.specs.declared.limits.TheConstants.{MAX_STATEMENTS}
 use Rattle.policy_expansion.specs.declared.policy.Policy.{Policy as NamedPolicy}
 use Rattle.policy_check.specs.Numbered.{numbered_policy}
 use Rattle.policy_check.specs.Rules.{KeepsAllRules}
@@ -42,6 +44,9 @@ pub record IsSoundPolicy (policy : Policy) : Type 0 where
   -- rates are as they must be
   pub constants : AllByRecursion HasRoomForConstants policy.terms
   pub room : HasRoomForGuarantees policy
+  -- sizes are within their limits; the default counts as a statement
+  pub few : length (paths_of policy) ≤ MAX_STATEMENTS
+  pub rates : AllByRecursion (λ term. term.rate ≤ MAX_RATE) policy.terms
 
 -- the automaton of the path, which accepts its words
 pub record IsAutomatonOfPath (symbols : List Symbol) (path : Path) (table : AutomatonTables) : Type 0 where

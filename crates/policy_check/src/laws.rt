@@ -1,13 +1,14 @@
 //! What later parts rest on of a policy that was checked. Each law is the contract of a function that does nothing.
 
-ghost use Rattle.std.specs.Prelude.{◌≡◌, ◌<◌, ◌↔◌, ℕ, true, List, Some, length, slice_get};
+ghost use Rattle.std.specs.Prelude.{◌≡◌, ◌<◌, ◌≤◌, ◌↔◌, ℕ, true, List, Some, length, slice_get};
+ghost use Rattle.merlin_model.specs.declared.limits.TheConstants.{MAX_RATE};
 ghost use Rattle.merlin_model.specs.declared.policy.Ends.{Ends};
 ghost use Rattle.merlin_model.specs.declared.policy.Symbol.{Symbol};
 ghost use Rattle.merlin_model.specs.Packets.{Packet, IsPacket};
 ghost use Rattle.merlin_model.specs.Predicates.{holds};
 ghost use Rattle.merlin_model.specs.Networks.{Network};
 ghost use Rattle.merlin_model.specs.Policies.{Policy, Statement, match_of, paths_of};
-ghost use Rattle.merlin_model.specs.Rates.{IsGuaranteed};
+ghost use Rattle.merlin_model.specs.Rates.{IsGuaranteed, max_of, min_of};
 ghost use Rattle.merlin_model.specs.Assignments.{AreAllEnds};
 ghost use Rattle.rate_formula.specs.Usage.{ids_in};
 ghost use Rattle.path_automaton.specs.Automata.{AutomatonTables};
@@ -38,4 +39,12 @@ pub fn automata_accept_paths()
 pub fn one_list_of_ends()
     ensures { (net : Network) (policy : Policy) (ends others : List Ends) →
         AreAllEnds net policy ends → AreAllEnds net policy others → ends ≡ others }
+{}
+
+/// The localised rates of a policy that was checked are within the limit of rates.
+pub fn localised_rates_are_small()
+    ensures caps { (policy : Policy) (i cap : ℕ) → IsSoundPolicy policy →
+        max_of policy i ≡ Some cap → cap ≤ MAX_RATE }
+    ensures guarantees { (policy : Policy) (i : ℕ) → IsSoundPolicy policy →
+        min_of policy i ≤ MAX_RATE }
 {}

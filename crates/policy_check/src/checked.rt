@@ -92,9 +92,10 @@ impl Checked {
         automaton_at(built, self.automata.numbers.as_slice(), statement)
     }
 
-    /// All automata: one for each normal form among the paths.
+    /// All automata: one for each normal form among the paths. Each path has the number of one.
     pub fn automata(&self) -> &[Automaton]
-        ensures { result.now ≡ self.now.automata }
+        ensures all { result.now ≡ self.now.automata }
+        ensures numbers { length self.now.automaton_numbers ≡ length (paths_of self.now.policy) }
     {
         self.automata.built.as_slice()
     }

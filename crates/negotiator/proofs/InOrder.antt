@@ -11,7 +11,7 @@ use Rattle.refinement_model.specs.Refinement.{KeepsCap, KeepsReserve, Refines}
 use Rattle.negotiator.specs.declared.fault.RefineFault.{RefineFault}
 use Rattle.negotiator.specs.declared.fault.RefineFault.TheVariants.{TooManyCells, PathWider, CapWider, ReserveWider, OutOfMemory}
 use Rattle.negotiator.specs.Amounts.{KeepsAllCaps, KeepsAllReserves, IsWithinReserves}
-use Rattle.negotiator.specs.CellCounts.{HasFewCells}
+use Rattle.negotiator.specs.CellCounts.{HasFewCellsTogether}
 use Rattle.negotiator.specs.Refusals.{RefusesCap, RefusesCaps, RefusesReserve, RefusesReserves, RefusesOutside, RefusesAmounts, RefusesRules, RefusesChild}
 use Rattle.negotiator.specs.Wider.{KeepsPaths}
 
@@ -84,7 +84,7 @@ module _ (net : Network) (parent child : Policy) where
   amounts-refused symbols paths (PathWider packet word) h = absurd h
   amounts-refused symbols paths OutOfMemory h = tt
 
-  pub rules-refused : (symbols : List Symbol) → HasFewCells net parent child → (fault : RefineFault) → RefusesRules net parent child symbols fault → RefusesChild net parent child symbols fault
+  pub rules-refused : (symbols : List Symbol) → HasFewCellsTogether net parent child → (fault : RefineFault) → RefusesRules net parent child symbols fault → RefusesChild net parent child symbols fault
   rules-refused symbols few (ReserveWider number sum) h = (few, h)
   rules-refused symbols few (CapWider number sum) h = (few, h)
   rules-refused symbols few (TooManyCells count) h = absurd h

@@ -19,7 +19,7 @@ use Rattle.policy_check.proofs.Guaranteed.{pairwise-increasing}
 use Rattle.negotiator.specs.declared.contacts.Contact.{Contact}
 use Rattle.negotiator.specs.Wider.{contact, AreContacts}
 use Rattle.negotiator.specs.Amounts.{IsOutsideReserves, IsWithinReserves}
-use Rattle.negotiator.specs.Marks.{is_marked, marked_from, marked, MeetsChosen, AreMarks, AreWithin, AreMarkedUpTo, AreBounded, AreUnreserved}
+use Rattle.negotiator.specs.Marks.{is_marked, marked_from, marked, MeetsChosen, AreMarks, AreContactsWithin, AreMarkedUpTo, AreBounded, AreUnreserved}
 
 -- what holds of all holds at a place
 pub within-at : {X : Type 0} (P : X → Type 0) (xs : List X) (i : ℕ) (d : X) → i < length xs → AllByRecursion P xs → P (get_or xs i d)
@@ -232,7 +232,7 @@ module _ (policy : Policy) (term : Term) (j : ℕ) where
 
 -- All together.
 
-module _ (net : Network) (parent child : Policy) (contacts : List Contact) (are : AreContacts net parent child contacts) (inside : AreWithin (length (paths_of child)) (length (paths_of parent)) contacts) where
+module _ (net : Network) (parent child : Policy) (contacts : List Contact) (are : AreContacts net parent child contacts) (inside : AreContactsWithin (length (paths_of child)) (length (paths_of parent)) contacts) where
   pub parent-within : (i j : ℕ) → Contains contacts (contact i j) → j < length (paths_of parent)
   parent-within i j h = (all_in (λ c. (c.child < length (paths_of child)) × (c.parent < length (paths_of parent))) contacts (contact i j) inside (in_from contacts (contact i j) h)).1
 

@@ -15,7 +15,7 @@ use Rattle.negotiator.specs.declared.fault.RefineFault.TheVariants.{TooManyCells
 use Rattle.negotiator.specs.Amounts.{KeepsAllCaps, KeepsAllReserves, IsWithinReserves}
 use Rattle.negotiator.specs.CellCounts.{cell_count}
 use Rattle.negotiator.specs.Contacts.{preds_of_both}
-use Rattle.negotiator.specs.Marks.{AreWithin}
+use Rattle.negotiator.specs.Marks.{AreContactsWithin}
 use Rattle.negotiator.specs.Refusals.{PassesRoom, RefusesChild}
 use Rattle.negotiator.specs.Wider.{KeepsPaths, AreContacts}
 use Rattle.negotiator.proofs.InOrder.{all-kept}
@@ -38,7 +38,7 @@ module _ (net : Network) (parent child : Policy) where
   rules-ok (Err e) paths caps reserves within = tt
 
   -- who touches is a statement, or a default
-  pub within-of : (contacts : List Contact) → AreContacts net parent child contacts → IsSoundPolicy parent → IsSoundPolicy child → AreWithin (length (paths_of child)) (length (paths_of parent)) contacts
+  pub within-of : (contacts : List Contact) → AreContacts net parent child contacts → IsSoundPolicy parent → IsSoundPolicy child → AreContactsWithin (length (paths_of child)) (length (paths_of parent)) contacts
   within-of contacts are of_parent of_child = go contacts (λ c i. i)
     where
       at : (c : Contact) → Contains contacts c → (c.child < length (paths_of child)) × (c.parent < length (paths_of parent))
@@ -46,7 +46,7 @@ module _ (net : Network) (parent child : Policy) where
           let t = (are c.child c.parent).0 h in
           (subst (λ n. n < length (paths_of child)) t.of_child (of_child.total t.packet t.is_packet), subst (λ n. n < length (paths_of parent)) t.of_parent (of_parent.total t.packet t.is_packet))
 
-      go : (cs : List Contact) → ((c : Contact) → In c cs → In c contacts) → AreWithin (length (paths_of child)) (length (paths_of parent)) cs
+      go : (cs : List Contact) → ((c : Contact) → In c cs → In c contacts) → AreContactsWithin (length (paths_of child)) (length (paths_of parent)) cs
       go [] f = tt
       go (c ∷ cs) f = (at c (in_to contacts c (f c (inl refl))), go cs (λ d i. f d (inr i)))
 

@@ -31,5 +31,5 @@ module _ (net : Network) (preds : List Pred) where
   cell_count = sum_to cells_from (length net.locations)
 
 -- the predicates of both policies together have no more cells than there may be
-abbrev pub HasFewCells : Network → Policy → Policy → Type 0
-HasFewCells net parent child = cell_count net (preds_of_both parent child) ≤ MAX_CELLS
+abbrev pub HasFewCellsTogether : Network → Policy → Policy → Type 0
+HasFewCellsTogether net parent child = cell_count net (preds_of_both parent child) ≤ MAX_CELLS

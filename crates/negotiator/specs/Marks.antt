@@ -28,8 +28,8 @@ pub record AreMarks (contacts : List Contact) (chosen : List Bool) (count : ℕ)
   pub exactly : (i : ℕ) → (is_marked marks i ≡ true) ↔ MeetsChosen contacts chosen i
 
 -- the contacts are between so many statements of the child and so many of the parent
-abbrev pub AreWithin : ℕ → ℕ → List Contact → Type 0
-AreWithin of_child of_parent contacts = AllByRecursion (λ c. (c.child < of_child) × (c.parent < of_parent)) contacts
+abbrev pub AreContactsWithin : ℕ → ℕ → List Contact → Type 0
+AreContactsWithin of_child of_parent contacts = AllByRecursion (λ c. (c.child < of_child) × (c.parent < of_parent)) contacts
 
 -- a mark for each of the first statements, which is this exactly where this is true of the statement
 pub record AreMarkedUpTo (mark : Bool) (Holds : ℕ → Type 0) (count : ℕ) (marks : List Bool) : Type 0 where

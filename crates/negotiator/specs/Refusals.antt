@@ -11,7 +11,7 @@ use Rattle.predicate_split.specs.declared.fault.TheConstants.{MAX_CELLS}
 use Rattle.refinement_model.specs.Refinement.{Refines, IsIn, IsAllowedTraffic, rate_of}
 use Rattle.negotiator.specs.declared.fault.RefineFault.{RefineFault}
 use Rattle.negotiator.specs.declared.fault.RefineFault.TheVariants.{TooManyCells, PathWider, CapWider, ReserveWider, OutOfMemory}
-use Rattle.negotiator.specs.CellCounts.{HasFewCells}
+use Rattle.negotiator.specs.CellCounts.{HasFewCellsTogether}
 use Rattle.negotiator.specs.Wider.{IsWidePath, KeepsPaths}
 use Rattle.negotiator.specs.Amounts.{KeepsAllCaps, KeepsAllReserves, IsWideCap, IsFirstWideCap, IsWideReserve, IsFirstWideReserve, IsFirstOutside}
 
@@ -68,13 +68,13 @@ module _ (net : Network) (parent child : Policy) where
   RefusesRules symbols fault = ⊥
 
   abbrev pub RefusesChild : List Symbol → RefineFault → Type 0
-  RefusesChild symbols (TooManyCells count) = (¬ HasFewCells net parent child) × (count ≡ MAX_CELLS + 1)
+  RefusesChild symbols (TooManyCells count) = (¬ HasFewCellsTogether net parent child) × (count ≡ MAX_CELLS + 1)
   RefusesChild symbols OutOfMemory = ⊤
-  RefusesChild symbols fault = HasFewCells net parent child × RefusesRules symbols fault
+  RefusesChild symbols fault = HasFewCellsTogether net parent child × RefusesRules symbols fault
 
   -- the child refines the parent, and the cells are within their limit
   pub record IsRefinement : Type 0 where
-    pub few : HasFewCells net parent child
+    pub few : HasFewCellsTogether net parent child
     pub refines : Refines net parent child
 
   -- What that means for traffic that the child allows. Where each statement keeps to its maximum, each `max` term of the parent is kept. Where each keeps to

@@ -6,7 +6,7 @@ ghost use Rattle.merlin_model.specs.Networks.{Network};
 ghost use Rattle.merlin_model.specs.Policies.{paths_of};
 ghost use Rattle.refinement_model.specs.Refinement.{IsAtMost, KeepsCap, KeepsReserve};
 ghost use Rattle.negotiator.specs.Amounts.{KeepsAllCaps, KeepsAllReserves, IsWithinReserves};
-ghost use Rattle.negotiator.specs.Marks.{AreWithin};
+ghost use Rattle.negotiator.specs.Marks.{AreContactsWithin};
 ghost use Rattle.negotiator.specs.Refusals.{RefusesCap, RefusesCaps, RefusesReserve};
 ghost use Rattle.negotiator.specs.Refusals.{RefusesReserves, RefusesOutside, RefusesAmounts};
 ghost use Rattle.negotiator.specs.Wider.{AreContacts};
@@ -38,7 +38,7 @@ fn ask_cap(
     number: usize,
     term: &Term,
 ) -> Result<(), RefineFault>
-    requires within { AreWithin (length (paths_of child.now.policy))
+    requires within { AreContactsWithin (length (paths_of child.now.policy))
         (length (paths_of parent.now.policy)) contacts.now }
     ensures ok { (net : Network) →
         AreContacts net parent.now.policy child.now.policy contacts.now → OnOk result
@@ -69,7 +69,7 @@ fn ask_caps(
     contacts: &[Contact],
     terms: &[Term],
 ) -> Result<(), RefineFault>
-    requires within { AreWithin (length (paths_of child.now.policy))
+    requires within { AreContactsWithin (length (paths_of child.now.policy))
         (length (paths_of parent.now.policy)) contacts.now }
     requires terms { terms.now ≡ parent.now.policy.terms }
     ensures ok { (net : Network) →
@@ -94,7 +94,7 @@ fn ask_reserve(
     number: usize,
     term: &Term,
 ) -> Result<(), RefineFault>
-    requires within { AreWithin (length (paths_of child.now.policy))
+    requires within { AreContactsWithin (length (paths_of child.now.policy))
         (length (paths_of parent.now.policy)) contacts.now }
     ensures ok { (net : Network) →
         AreContacts net parent.now.policy child.now.policy contacts.now → OnOk result
@@ -126,7 +126,7 @@ fn ask_reserves(
     contacts: &[Contact],
     terms: &[Term],
 ) -> Result<(), RefineFault>
-    requires within { AreWithin (length (paths_of child.now.policy))
+    requires within { AreContactsWithin (length (paths_of child.now.policy))
         (length (paths_of parent.now.policy)) contacts.now }
     requires terms { terms.now ≡ parent.now.policy.terms }
     ensures ok { (net : Network) →
@@ -149,7 +149,7 @@ fn ask_outside(
     child: &Checked,
     contacts: &[Contact],
 ) -> Result<(), RefineFault>
-    requires within { AreWithin (length (paths_of child.now.policy))
+    requires within { AreContactsWithin (length (paths_of child.now.policy))
         (length (paths_of parent.now.policy)) contacts.now }
     ensures ok { (net : Network) →
         AreContacts net parent.now.policy child.now.policy contacts.now → OnOk result
@@ -177,7 +177,7 @@ pub(crate) fn ask_amounts(
     child: &Checked,
     contacts: &[Contact],
 ) -> Result<(), RefineFault>
-    requires within { AreWithin (length (paths_of child.now.policy))
+    requires within { AreContactsWithin (length (paths_of child.now.policy))
         (length (paths_of parent.now.policy)) contacts.now }
     ensures caps { (net : Network) →
         AreContacts net parent.now.policy child.now.policy contacts.now → OnOk result

@@ -5,7 +5,7 @@ ghost use Rattle.merlin_model.specs.Networks.{Network};
 ghost use Rattle.merlin_model.specs.Policies.{paths_of};
 ghost use Rattle.merlin_model.specs.Rates.{id_of_part, is_max};
 ghost use Rattle.refinement_model.specs.Refinement.{AreTouching, IsIn, IsReserved};
-ghost use Rattle.negotiator.specs.Marks.{AreBounded, AreMarks, AreUnreserved, AreWithin, is_marked, marked};
+ghost use Rattle.negotiator.specs.Marks.{AreBounded, AreMarks, AreUnreserved, AreContactsWithin, is_marked, marked};
 ghost use Rattle.negotiator.specs.Wider.{AreContacts};
 
 use crate::contacts::Contact;
@@ -110,7 +110,7 @@ pub(crate) fn marks_of(
     chosen: &[bool],
     count: usize,
 ) -> Result<Vec<bool>, OutOfMemory>
-    requires { AreWithin count (length chosen.now) contacts.now }
+    requires { AreContactsWithin count (length chosen.now) contacts.now }
     ensures { IfOk result (λ marks. AreMarks contacts.now chosen.now count marks.items) }
 {
     let mut marks = vec![in alloc; false; count]?;
@@ -128,7 +128,7 @@ pub(crate) fn touched_by(
     contacts: &[Contact],
     term: &Term,
 ) -> Result<Vec<bool>, OutOfMemory>
-    requires { AreWithin (length (paths_of child.now.policy))
+    requires { AreContactsWithin (length (paths_of child.now.policy))
         (length (paths_of parent.now.policy)) contacts.now }
     ensures size { IfOk result (λ marks. length marks.items ≡ length (paths_of child.now.policy)) }
     ensures touching { (net : Network) →

@@ -7,9 +7,9 @@ ghost use Rattle.merlin_model.specs.Policies.{paths_of};
 ghost use Rattle.policy_check.specs.Checked.{HasAutomata};
 ghost use Rattle.refinement_model.specs.Refinement.{Refines};
 ghost use Rattle.topology.specs.Symbols.{network_symbols};
-ghost use Rattle.negotiator.specs.CellCounts.{HasFewCells};
+ghost use Rattle.negotiator.specs.CellCounts.{HasFewCellsTogether};
 ghost use Rattle.negotiator.specs.Refusals.{RefusesChild, RefusesRules, IsRefinement, KeepsUsages};
-ghost use Rattle.negotiator.specs.Marks.{AreWithin};
+ghost use Rattle.negotiator.specs.Marks.{AreContactsWithin};
 ghost use Rattle.negotiator.specs.Wider.{IsComparison};
 
 use crate::asking::ask_amounts;
@@ -28,7 +28,7 @@ fn ask_few(
     child: &Checked,
     net: &Topology,
 ) -> Result<(), RefineFault>
-    ensures ok { OnOk result (HasFewCells net.now parent.now.policy child.now.policy) }
+    ensures ok { OnOk result (HasFewCellsTogether net.now parent.now.policy child.now.policy) }
     ensures err { IfErr result (RefusesChild net.now
         parent.now.policy child.now.policy (network_symbols net.now)) }
 {
@@ -44,7 +44,7 @@ fn ask_rules(
     child: &Checked,
     comparison: Comparison,
 ) -> Result<(), RefineFault>
-    requires within { AreWithin (length (paths_of child.now.policy))
+    requires within { AreContactsWithin (length (paths_of child.now.policy))
         (length (paths_of parent.now.policy)) comparison.contacts.items }
     ensures ok { (net : Network) (symbols : List Symbol) →
         IsComparison net parent.now.policy child.now.policy symbols comparison →

@@ -8,6 +8,8 @@ pub mod Meanings
 pub mod Normality
 pub mod Ascending
 pub mod Results
+pub mod Entries
 pub mod Sharing
+pub mod Steps
 pub mod Ranked
 pub mod Joined

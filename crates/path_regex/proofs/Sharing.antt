@@ -1,5 +1,5 @@
 -- Laws of normal forms that share their parts.
-use Rattle.std.proofs.Common.{Result, Ok, Err, IfOk, OnErr, ◌≡◌, ◌<◌, ◌≤◌, ◌+◌, ◌==◌, ◌||◌, ◌&&◌, nat_eq, Option, None, IfSome, OnOk, ◌⊎◌, inl, inr, ℕ, suc, zero, if◌then◌else◌, Bool, true, false, cond, List, [], ◌∷◌, ◌++◌, length, slice_get, Some, append_assoc, append-nil, length-append, refl, sym, ◌∙◌, ap, ap₂, subst, arith}
+use Rattle.std.proofs.Common.{Result, Ok, Err, IfOk, OnErr, ◌≡◌, ◌<◌, ◌≤◌, ◌+◌, ◌==◌, ◌||◌, ◌&&◌, nat_eq, Option, None, IfSome, OnOk, ◌⊎◌, inl, inr, ℕ, suc, zero, Bool, true, false, cond, List, [], ◌∷◌, ◌++◌, length, slice_get, Some, append_assoc, append-nil, length-append, refl, sym, ◌∙◌, ap, ap₂, subst, arith}
 use Rattle.std.specs.List.{list_any, AllByRecursion}
 use Rattle.std.proofs.lemmas.Bool.{eqb-true}
 use Rattle.merlin_model.specs.declared.policy.Path.{Path, Nothing, Loc, Fun, Cat, Cat', Alt, Star, Star', Not, Not', end_of-Path, more_of-Path}
@@ -13,7 +13,9 @@ use Rattle.path_regex.specs.Normal.{members}
 use Rattle.path_regex.proofs.Shapes.{members-Alt}
 use Rattle.path_regex.specs.declared.forms.FormNode.{FormNode}
 use Rattle.path_regex.specs.declared.forms.FormNode.TheVariants.{Nothing as NodeNothing, Empty as NodeEmpty, Dot as NodeDot, Loc as NodeLoc, Fun as NodeFun, Cat as NodeCat, NoChoice as NodeNoChoice, Alt as NodeAlt, Star as NodeStar, Not as NodeNot}
-use Rattle.path_regex.specs.Shared.{form_at, alt_by, IsChain, meaning, meanings, PartsStandBefore, IsNode, AreDistinct, AreNodes, AddsForms, IsFormAt, IsKnownOrder, AreForms, node_rank}
+use Rattle.path_regex.specs.declared.forms.FormStep.{FormStep}
+use Rattle.path_regex.proofs.Entries.{entry-noted, entry-found}
+use Rattle.path_regex.specs.Shared.{form_at, alt_by, members_after, step_symbol, IsKnownStep, IsChain, meaning, meanings, PartsStandBefore, IsNode, AreDistinct, AreNodes, AddsForms, IsFormAt, IsKnownOrder, AreForms, node_rank}
 
 -- Growing.
 
@@ -291,28 +293,20 @@ pair-same x y e = by (nat_eq x.0 y.0) refl (nat_eq x.1 y.1) refl e
     by true p false q e = cc
     by false p t q e = cc
 
-module _ (forms : List Path) where
-  pub known-inserted : (orders : List ((ℕ × ℕ) × Ordering)) (pair : ℕ × ℕ) (o : Ordering) → IsKnownOrder forms (pair, o) → AllByRecursion (IsKnownOrder forms) orders → AllByRecursion (IsKnownOrder forms) (insert_entry pair_eq orders pair o)
-  known-inserted [] pair o k h = (k, tt)
-  known-inserted (e ∷ orders) pair o k h = by (pair_eq pair e.0) refl (known-inserted orders pair o k h.1)
-    where
-      by : (b : Bool) → pair_eq pair e.0 ≡ b → AllByRecursion (IsKnownOrder forms) (insert_entry pair_eq orders pair o) → AllByRecursion (IsKnownOrder forms) (if b then (e.0, o) ∷ orders else e ∷ insert_entry pair_eq orders pair o)
-      by true t rest = (subst (λ p. IsKnownOrder forms (p, o)) (pair-same pair e.0 t) k, h.1)
-      by false t rest = (h.0, rest)
-
-  -- what is found is true
-  pub known-found : (orders : List ((ℕ × ℕ) × Ordering)) (pair : ℕ × ℕ) (r : Option Ordering) → AllByRecursion (IsKnownOrder forms) orders → r ≡ lookup (λ k. pair_eq pair k) orders → IfSome r (λ o. o ≡ order (form_at forms pair.0) (form_at forms pair.1))
-  known-found orders pair None h e = tt
-  known-found [] pair (Some o) h e = cc
-  known-found (known ∷ orders) pair (Some o) h e = by (pair_eq pair known.0) refl e (known-found orders pair (Some o) h.1)
-    where
-      by : (b : Bool) → pair_eq pair known.0 ≡ b → Some o ≡ (if b then Some known.1 else lookup (λ k. pair_eq pair k) orders) → (Some o ≡ lookup (λ k. pair_eq pair k) orders → o ≡ order (form_at forms pair.0) (form_at forms pair.1)) → o ≡ order (form_at forms pair.0) (form_at forms pair.1)
-      by true t f rest =
-          let at : o ≡ known.1 = cc in
-          at ∙ h.0.2 ∙ sym (ap (λ p. order (form_at forms p.0) (form_at forms p.1)) (pair-same pair known.0 t))
-      by false t f rest = rest f
+-- what is found is true
+pub known-found : (forms : List Path) (orders : List ((ℕ × ℕ) × Ordering)) (pair : ℕ × ℕ) (r : Option Ordering) → AllByRecursion (IsKnownOrder forms) orders → r ≡ lookup (λ k. pair_eq pair k) orders → IfSome r (λ o. o ≡ order (form_at forms pair.0) (form_at forms pair.1))
+known-found forms orders pair None h e = tt
+known-found forms orders pair (Some o) h e = (entry-found (ℕ × ℕ) Ordering pair_eq pair-same (IsKnownOrder forms) orders pair (Some o) h e).2
 
 -- what is known after an answer was noted
-pub noted : (all : List FormNode) (old new : List ((ℕ × ℕ) × Ordering)) {X E : Type 0} (r : Result X E) (pair : ℕ × ℕ) (o : Ordering) → AreForms all old → IsKnownOrder (meanings [] all) (pair, o) → OnOk r (new ≡ insert_entry pair_eq old pair o) → OnErr r (new ≡ old) → AreForms all new
-noted all old new (Ok x) pair o h k e f = record { nodes = h.nodes; orders = subst (AllByRecursion (IsKnownOrder (meanings [] all))) (sym e) (known-inserted (meanings [] all) old pair o k h.orders) }
-noted all old new (Err x) pair o h k e f = record { nodes = h.nodes; orders = subst (AllByRecursion (IsKnownOrder (meanings [] all))) (sym f) h.orders }
+pub noted : (all : List FormNode) (old new : List ((ℕ × ℕ) × Ordering)) (taken : List (FormStep × ℕ)) {X E : Type 0} (r : Result X E) (pair : ℕ × ℕ) (o : Ordering) → AreForms all old taken → IsKnownOrder (meanings [] all) (pair, o) → OnOk r (new ≡ insert_entry pair_eq old pair o) → OnErr r (new ≡ old) → AreForms all new taken
+noted all old new taken r pair o h k e f = record { nodes = h.nodes; orders = entry-noted (ℕ × ℕ) Ordering pair_eq pair-same (IsKnownOrder (meanings [] all)) old new r pair o k h.orders e f; steps = h.steps }
+
+-- What is kept of what follows.
+
+pub steps-more : {old new : List Path} → AddsForms old new → (taken : List (FormStep × ℕ)) → AllByRecursion (IsKnownStep old) taken → AllByRecursion (IsKnownStep new) taken
+steps-more g [] h = tt
+steps-more g (known ∷ taken) h =
+    let one = h.0 in
+    let rest = named g known.1 _ one.1 in
+    ((within g known.0.all one.0, (rest.0, rest.1 ∙ sym (ap (λ a. members_after a (step_symbol known.0)) (kept g known.0.all one.0)))), steps-more g taken h.1)

@@ -1,11 +1,14 @@
 -- Normal forms that share their parts.
-use Rattle.std.specs.Prelude.{ℕ, ◌≡◌, ◌<◌, ⊤, List, [], ◌∷◌, ◌++◌, length, slice_get, Some}
-use Rattle.std.specs.List.{AllByRecursion, slice_index_or}
+use Rattle.std.specs.Prelude.{ℕ, ◌≡◌, ◌<◌, ⊤, List, [], ◌∷◌, ◌++◌, length, map, slice_get, Some}
+use Rattle.std.specs.List.{AllByRecursion, flat_map, slice_index_or}
+use Rattle.merlin_model.specs.declared.policy.Symbol.{Symbol}
 use Rattle.merlin_model.specs.declared.policy.Path.{Path, Nothing, Empty, Dot, Loc, Fun, Cat, Alt, Star, Not}
 use Rattle.std.specs.Ordering.{ordering_then}
 use Rattle.std.specs.declared.cmp.Ordering.{Ordering}
-use Rattle.path_regex.specs.Normal.{members}
+use Rattle.path_regex.specs.Normal.{members, in_order_of}
+use Rattle.path_regex.specs.Derivatives.{derivative_of}
 use Rattle.path_regex.specs.Order.{order}
+use Rattle.path_regex.specs.declared.forms.FormStep.{FormStep}
 use Rattle.path_regex.specs.declared.forms.FormNode.{FormNode}
 use Rattle.path_regex.specs.declared.forms.FormNode.TheVariants.{Nothing as NodeNothing, Empty as NodeEmpty, Dot as NodeDot, Loc as NodeLoc, Fun as NodeFun, Cat as NodeCat, NoChoice as NodeNoChoice, Alt as NodeAlt, Star as NodeStar, Not as NodeNot}
 
@@ -21,6 +24,10 @@ alt_by (a ∷ rest) = Alt (a ∷ rest)
 -- the path is Nothing, or an Alt with members
 abbrev pub IsChain : Path → Type 0
 IsChain a = a ≡ alt_by (members a)
+
+-- the Alt of what may follow the members of a path after a symbol
+abbrev pub members_after : Path → Symbol → Path
+members_after path x = alt_by (in_order_of (flat_map members (map (λ a. derivative_of a x) (members path))))
 
 -- the form with these parts
 abbrev pub meaning : List Path → FormNode → Path
@@ -93,10 +100,20 @@ abbrev pub IsKnownOrder : List Path → (ℕ × ℕ) × Ordering → Type 0
 IsKnownOrder forms known =
     (known.0.0 < length forms) × (known.0.1 < length forms) × (known.1 ≡ order (form_at forms known.0.0) (form_at forms known.0.1))
 
--- the nodes have the parts of their forms, and what is kept of their order is true
-pub record AreForms (all : List FormNode) (known : List ((ℕ × ℕ) × Ordering)) : Type 0 where
+-- the symbol of a step
+abbrev pub step_symbol : FormStep → Symbol
+step_symbol step = record { loc = step.loc; fun = step.fun }
+
+-- what follows the Alt at a place after a symbol is kept
+abbrev pub IsKnownStep : List Path → FormStep × ℕ → Type 0
+IsKnownStep forms known =
+    (known.0.all < length forms) × IsFormAt forms known.1 (members_after (form_at forms known.0.all) (step_symbol known.0))
+
+-- the nodes have the parts of their forms, and what is kept of their order and of what follows is true
+pub record AreForms (all : List FormNode) (compared : List ((ℕ × ℕ) × Ordering)) (taken : List (FormStep × ℕ)) : Type 0 where
   pub nodes : AreNodes all (meanings [] all)
-  pub orders : AllByRecursion (IsKnownOrder (meanings [] all)) known
+  pub orders : AllByRecursion (IsKnownOrder (meanings [] all)) compared
+  pub steps : AllByRecursion (IsKnownStep (meanings [] all)) taken
 
 -- two forms compare by the first part of each, and by the rest where these are equal
 abbrev pub IsOrderedByParts : List Path → ℕ × ℕ → ℕ × ℕ → ℕ × ℕ → Type 0

@@ -3,10 +3,11 @@
 ghost use Rattle.std.specs.Prelude.{◌≡◌, ◌<◌, [], length, IfOk, IfSome};
 ghost use Rattle.path_regex.specs.Order.{order};
 ghost use Rattle.path_regex.specs.Shared.{meaning, PartsStandBefore, IsNode, AreDistinct};
-ghost use Rattle.path_regex.specs.Shared.{AddsForms, IsFormAt, form_at};
+ghost use Rattle.path_regex.specs.Shared.{AddsForms, IsFormAt, form_at, members_after};
 
 use indexmap::{IndexMap, IndexSet};
 use merlin_model::OutOfMemory;
+use merlin_model::policy::Symbol;
 use std::alloc::Global;
 use std::cmp::Ordering;
 use std::marker::Model;
@@ -27,11 +28,24 @@ pub enum FormNode {
     Not(usize),
 }
 
-/// Paths that share their parts, each once, and how pairs of them compare that were compared before.
+/// The greatest number of steps that are kept.
+const MAX_STEPS: usize = 65_536;
+
+/// A symbol behind the Alt at a place.
+#[derive(Clone, Copy, PartialEq, Eq, Hash)]
+struct FormStep {
+    all: usize,
+    loc: usize,
+    fun: Option<usize>,
+}
+
+/// Paths that share their parts, each once; how pairs of them compare that were compared before; and
+/// what follows after the last steps.
 #[derive(Drop)]
 pub struct Forms {
     nodes: IndexSet<FormNode>,
     orders: IndexMap<(usize, usize), Ordering>,
+    steps: IndexMap<FormStep, usize>,
 }
 
 impl Model for Forms {
@@ -47,7 +61,8 @@ impl Model for Forms {
 
     ghost view = { λ forms. meanings [] forms.nodes.keys };
 
-    ghost invariant = { λ forms. AreForms forms.nodes.keys forms.orders.entries };
+    ghost invariant = { λ forms. AreForms forms.nodes.keys forms.orders.entries
+        forms.steps.entries };
 }
 
 impl Forms {
@@ -58,6 +73,7 @@ impl Forms {
         Forms {
             nodes: IndexSet::new(alloc),
             orders: IndexMap::new(alloc),
+            steps: IndexMap::new(alloc),
         }
     }
 
@@ -104,6 +120,36 @@ impl Forms {
     {
         self.orders.insert((first, second), found)?;
         Ok(())
+    }
+
+    /// The Alt of what may follow the members of an Alt after a symbol, if it is kept.
+    pub fn known_step(&self, all: usize, symbol: Symbol) -> Option<usize>
+        ensures { IfSome result (λ rest.
+            IsFormAt self.now rest (members_after (form_at self.now all) symbol)) }
+    {
+        let Symbol { loc, fun } = symbol;
+        self.steps.get(&FormStep { all, loc, fun }).copied()
+    }
+
+    /// Keeps the Alt of what may follow the members of an Alt after a symbol.
+    pub fn note_step(&mut self, all: usize, symbol: Symbol, rest: usize) -> Result<(), OutOfMemory>
+        requires all { all < length self.old }
+        requires rest { IsFormAt self.old rest (members_after (form_at self.old all) symbol) }
+        ensures { self.new ≡ self.old }
+    {
+        self.forget_steps();
+        let Symbol { loc, fun } = symbol;
+        self.steps.insert(FormStep { all, loc, fun }, rest)?;
+        Ok(())
+    }
+
+    /// Forgets what follows after the steps where no more may be kept.
+    fn forget_steps(&mut self)
+        ensures { self.new ≡ self.old }
+    {
+        if MAX_STEPS <= self.steps.len() {
+            self.steps.truncate(0);
+        }
     }
 
     /// Each form has one place.

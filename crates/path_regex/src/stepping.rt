@@ -1,11 +1,11 @@
-//! Brzozowski's derivatives (1964) of normal forms that share their parts, and the empty word.
+//! Brzozowski's derivatives (1964) of normal forms that share their parts, and the empty word. What follows an Alt is kept, since
+//! Alts share their ends and are met again in other states (memoization, Michie 1968).
 
-ghost use Rattle.std.specs.Prelude.{◌≡◌, ◌<◌, ◌∷◌, [], length, map, IfOk};
-ghost use Rattle.std.specs.List.{flat_map};
-ghost use Rattle.path_regex.specs.Normal.{members, in_order_of, alt_of as alt};
+ghost use Rattle.std.specs.Prelude.{◌≡◌, ◌<◌, ◌∷◌, [], length, IfOk};
+ghost use Rattle.path_regex.specs.Normal.{alt_of as alt};
 ghost use Rattle.path_regex.specs.Derivatives.{takes_empty as takes, empty_if as when};
 ghost use Rattle.path_regex.specs.Derivatives.{derivative_of};
-ghost use Rattle.path_regex.specs.Shared.{form_at, alt_by, IsChain, AddsForms, IsFormAt};
+ghost use Rattle.path_regex.specs.Shared.{form_at, members_after, IsChain, AddsForms, IsFormAt};
 
 use crate::forms::{FormNode, Forms};
 use merlin_model::OutOfMemory;
@@ -80,6 +80,7 @@ impl Forms {
             }
             FormNode::Alt(_, _) => {
                 let all = self.derivatives(form, symbol)?;
+                self.note_step(form, symbol, all)?;
                 Ok(self.one_of(all))
             }
             FormNode::Star(inner) => {
@@ -103,12 +104,14 @@ impl Forms {
         requires chain { IsChain (form_at self.old all) }
         ensures grows { AddsForms self.old self.new }
         ensures value { IfOk result (λ rest.
-            IsFormAt self.new rest (alt_by (in_order_of (flat_map members
-            (map (λ a. derivative_of a symbol) (members (form_at self.old all))))))) }
+            IsFormAt self.new rest (members_after (form_at self.old all) symbol)) }
     {
         let FormNode::Alt(first, rest) = self.node(all) else {
             return Ok(all);
         };
+        if let Some(known) = self.known_step(all, symbol) {
+            return Ok(known);
+        }
         let others = self.derivatives(rest, symbol)?;
         let after = self.derivative(first, symbol)?;
         self.all_added(after, others)

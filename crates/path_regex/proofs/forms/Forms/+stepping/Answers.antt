@@ -31,7 +31,8 @@ pub derivative-derivatives-requires : goal.derivative-derivatives-requires
 derivative-derivatives-requires t c = (search rules, (c.requires, alt-chain _ _ _ c.node.ensures _ _ c.in-Alt.is))
 
 pub derivative-one_of-requires-clause-chain : goal.derivative-one_of-requires-clause-chain
-derivative-one_of-requires-clause-chain t c = named-chain c.derivatives.new.self c.in_ok-all-in-Alt.all _ c.in_ok-all-in-Alt.ensures.value.1
+derivative-one_of-requires-clause-chain t c =
+    named-chain c.note_step.new.self c.in_ok-all-in-Alt.all _ (ap (λ (forms : List Path). form_at forms c.in_ok-all-in-Alt.all) c.note_step.ensures ∙ c.in_ok-all-in-Alt.ensures.value.1)
 
 pub derivative-returns-in_ok-other-in-Cat-clause-value : goal.derivative-returns-in_ok-other-in-Cat-clause-value
 derivative-returns-in_ok-other-in-Cat-clause-value t c =
@@ -51,11 +52,11 @@ derivative-returns-in_ok-other-in-Cat-clause-value t c =
     ∙ ap (λ b. with_next b (cat_of (derivative_of (form_at c.args.self.now c.in-Cat.first) c.args.symbol) (form_at c.args.self.now c.in-Cat.rest)) (derivative_of (form_at c.args.self.now c.in-Cat.rest) c.args.symbol)) goes_on))
     c.either.ensures.value
 
-pub derivative-returns-in_ok-all-in-Alt-clause-value : goal.derivative-returns-in_ok-all-in-Alt-clause-value
-derivative-returns-in_ok-all-in-Alt-clause-value t c = (
+pub derivative-returns-in_ok-note_step-in-Alt-clause-value : goal.derivative-returns-in_ok-note_step-in-Alt-clause-value
+derivative-returns-in_ok-note_step-in-Alt-clause-value t c = (
   c.one_of.ensures.0,
   c.one_of.ensures.1
-      ∙ ap one_of (named-members c.derivatives.new.self c.in_ok-all-in-Alt.all _ c.in_ok-all-in-Alt.ensures.value.1)
+      ∙ ap one_of (named-members c.note_step.new.self c.in_ok-all-in-Alt.all _ (ap (λ (forms : List Path). form_at forms c.in_ok-all-in-Alt.all) c.note_step.ensures ∙ c.in_ok-all-in-Alt.ensures.value.1))
       ∙ ap (λ (l : List Path). alt_of (map (λ a. derivative_of a c.args.symbol) l)) (members-at _ _ _ c.node.ensures _ _ c.in-Alt.is)
       ∙ sym (ap (λ (a : Path). derivative_of a c.args.symbol) (is-Alt _ _ _ c.node.ensures _ _ c.in-Alt.is) ∙ derivative_of-Alt _ _),
 )

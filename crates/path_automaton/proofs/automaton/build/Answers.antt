@@ -52,6 +52,16 @@ returns-in_err-states-clause-built c =
     passed c.args.path.now c.args.symbols.now c.in_ok-numbers.field-0 c.as_slice.result.now c.in_ok-numbers.ensures c.as_slice.ensures
     c.in_err-states.field-0.0 c.in_err-states.ensures c.from_residual-in_err-states.result c.from_residual-in_err-states.ensures.1
 
+out_of_memory : (path : Path) (symbols : List Symbol) (r : Result AutomatonTables AutomatonFault) → IsErrAnd r (λ f. f ≡ OutOfMemory) → IsBuilt path symbols r
+out_of_memory path symbols (Ok x) i = absurd i
+out_of_memory path symbols (Err f) i = subst (λ fault. IsBuilt path symbols (Err fault)) (sym i) tt
+
+pub returns-in_err-accepting-clause-built : goal.returns-in_err-accepting-clause-built
+returns-in_err-accepting-clause-built c = out_of_memory c.args.path.now c.args.symbols.now c.from_residual-in_err-accepting.result c.from_residual-in_err-accepting.ensures.1
+
+pub returns-in_err-living-clause-built : goal.returns-in_err-living-clause-built
+returns-in_err-living-clause-built c = out_of_memory c.args.path.now c.args.symbols.now c.from_residual-in_err-living.result c.from_residual-in_err-living.ensures.1
+
 pub living-requires : goal.living-requires
 living-requires c =
     let classes : Classes = c.in_ok-numbers.field-0 in

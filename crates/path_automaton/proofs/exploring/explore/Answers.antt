@@ -36,3 +36,10 @@ turns-preserved c =
     let made = subst (λ k. IsFollowed c.turns.states (get_or c.turns.states k Nothing) c.args.symbols.now c.row.new.states (Ok row)) c.len-in-turns-2.ensures c.in_ok-row.ensures in
     subst (λ (rows : List (List ℕ)). AreExploring (normal_of c.args.path.now) c.args.symbols.now c.row.new.states rows) (sym c.in_ok-push.ensures.ok)
     (turn (normal_of c.args.path.now) c.args.symbols.now c.turns.states c.turns.rows c.turns.invariant (omega arith) c.row.new.states row made.0 made.1 made.2)
+
+out_of_memory : (first : Path) (symbols : List Symbol) (r : Result Explored AutomatonFault) → IsErrAnd r (λ f. f ≡ OutOfMemory) → IsExplored first symbols r
+out_of_memory first symbols (Ok x) i = absurd i
+out_of_memory first symbols (Err f) i = subst (λ g. IsExplored first symbols (Err g)) (sym i) tt
+
+pub returns-in_err-push : goal.returns-in_err-push
+returns-in_err-push c = out_of_memory (normal_of c.args.path.now) c.args.symbols.now c.from_residual-in_err-push.result c.from_residual-in_err-push.ensures.1

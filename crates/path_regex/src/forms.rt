@@ -40,7 +40,7 @@ struct FormStep {
 }
 
 /// Paths that share their parts, each once; how pairs of them compare that were compared before; and
-/// what follows after the last steps.
+/// what may follow after steps that were taken before.
 #[derive(Drop)]
 pub struct Forms {
     nodes: IndexSet<FormNode>,
@@ -143,7 +143,7 @@ impl Forms {
         Ok(())
     }
 
-    /// Forgets what follows after the steps where no more may be kept.
+    /// Forgets what may follow after steps where no more may be kept.
     fn forget_steps(&mut self)
         ensures { self.new ≡ self.old }
     {

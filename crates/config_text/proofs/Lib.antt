@@ -1,1 +1,4 @@
 pub mod Joining
+pub mod Separators
+pub mod Spaced
+pub mod Handing

@@ -2,14 +2,76 @@
 
 ghost use Rattle.std.specs.Prelude.{◌≡◌, ◌<◌, ◌++◌, length, OnOk, IfOk};
 ghost use Rattle.std.specs.List.{All};
-ghost use Rattle.config_text.specs.Lines.{rule_lines, process_lines, queue_lines, host_lines, host_of, config_lines, IsConfigOver};
+ghost use Rattle.config_text.specs.Words.{line as whole_line};
+ghost use Rattle.config_text.specs.Lines.{rule_lines, process_lines, queue_lines, host_lines, host_of, config_lines, name_at, rule_text, process_text, queue_text, host_text, IsConfigOver};
 
 use crate::hosts::host_line;
+use crate::line::Line;
 use crate::rules::{process_line, queue_line, rule_line};
 use merlin_base::{Name, OutOfMemory};
 use merlin_model::config::{Config, HostLine, Process, Queue, Rule};
 use std::alloc::Global;
 use topology::Topology;
+
+// The line of a rule. So below for the other kinds of lines.
+pub(crate) fn line_of_rule(line: &mut Line, net: &Topology, rule: &Rule) -> Result<(), OutOfMemory>
+    requires { rule.now.loc < length net.now.locations }
+    ensures { OnOk result (line.new ≡
+        whole_line (rule_text (name_at net.now rule.now.loc) rule.now)) }
+{
+    rule_line(line, net.name(rule.loc), rule)
+}
+
+pub(crate) fn line_of_process(
+    line: &mut Line,
+    net: &Topology,
+    process: &Process,
+) -> Result<(), OutOfMemory>
+    requires location { process.now.loc < length net.now.locations }
+    requires functions { All (λ f. f < length net.now.functions) process.now.functions }
+    ensures { let name = name_at net.now process.now.loc in
+        OnOk result (line.new ≡ whole_line (process_text name net.now.functions process.now)) }
+{
+    process_line(line, net.name(process.loc), net.functions(), process)
+}
+
+pub(crate) fn line_of_queue(
+    line: &mut Line,
+    net: &Topology,
+    queue: &Queue,
+) -> Result<(), OutOfMemory>
+    requires { queue.now.loc < length net.now.locations }
+    ensures { OnOk result (line.new ≡
+        whole_line (queue_text (name_at net.now queue.now.loc) queue.now)) }
+{
+    queue_line(line, net.name(queue.loc), queue)
+}
+
+// The host of a line.
+fn host_of(host: &HostLine) -> usize
+    ensures { result ≡ host_of host.now }
+{
+    match host {
+        HostLine::Root { host } => *host,
+        HostLine::Class { host, .. } => *host,
+        HostLine::Classify { host, .. } => *host,
+        HostLine::Leave { host, .. } => *host,
+        HostLine::Output { host, .. } => *host,
+    }
+}
+
+pub(crate) fn line_of_host(
+    alloc: Global,
+    line: &mut Line,
+    net: &Topology,
+    host: &HostLine,
+) -> Result<(), OutOfMemory>
+    requires { host_of host.now < length net.now.locations }
+    ensures { OnOk result (line.new ≡
+        whole_line (host_text (name_at net.now (host_of host.now)) host.now)) }
+{
+    host_line(alloc, line, net.name(host_of(host)), host)
+}
 
 fn rule_lines(
     alloc: Global,
@@ -20,8 +82,10 @@ fn rule_lines(
     requires { All (λ rule. rule.loc < length net.now.locations) rules.now }
     ensures { OnOk result (lines.new.items ≡ lines.old.items ++ rule_lines net.now rules.now) }
 {
+    let mut line = Line::new(alloc);
     for rule in rules {
-        lines.push(rule_line(alloc, net.name(rule.loc), rule)?)?;
+        line_of_rule(&mut line, net, rule)?;
+        lines.push(line.name()?)?;
     }
     Ok(())
 }
@@ -38,9 +102,10 @@ fn process_lines(
     ensures { OnOk result (lines.new.items ≡ lines.old.items
         ++ process_lines net.now processes.now) }
 {
+    let mut line = Line::new(alloc);
     for process in processes {
-        let line = process_line(alloc, net.name(process.loc), net.functions(), process)?;
-        lines.push(line)?;
+        line_of_process(&mut line, net, process)?;
+        lines.push(line.name()?)?;
     }
     Ok(())
 }
@@ -54,23 +119,12 @@ fn queue_lines(
     requires { All (λ queue. queue.loc < length net.now.locations) queues.now }
     ensures { OnOk result (lines.new.items ≡ lines.old.items ++ queue_lines net.now queues.now) }
 {
+    let mut line = Line::new(alloc);
     for queue in queues {
-        lines.push(queue_line(alloc, net.name(queue.loc), queue)?)?;
+        line_of_queue(&mut line, net, queue)?;
+        lines.push(line.name()?)?;
     }
     Ok(())
-}
-
-// The host of a line.
-fn host_of(host: &HostLine) -> usize
-    ensures { result ≡ host_of host.now }
-{
-    match host {
-        HostLine::Root { host } => *host,
-        HostLine::Class { host, .. } => *host,
-        HostLine::Classify { host, .. } => *host,
-        HostLine::Leave { host, .. } => *host,
-        HostLine::Output { host, .. } => *host,
-    }
 }
 
 fn host_lines(
@@ -82,8 +136,10 @@ fn host_lines(
     requires { All (λ host. host_of host < length net.now.locations) hosts.now }
     ensures { OnOk result (lines.new.items ≡ lines.old.items ++ host_lines net.now hosts.now) }
 {
+    let mut line = Line::new(alloc);
     for host in hosts {
-        lines.push(host_line(alloc, net.name(host_of(host)), host)?)?;
+        line_of_host(alloc, &mut line, net, host)?;
+        lines.push(line.name()?)?;
     }
     Ok(())
 }

@@ -2,11 +2,11 @@
 
 ghost use Rattle.std.specs.Prelude.{◌≡◌, ◌++◌, ◌∷◌, [], ℕ, List, OnOk, IfOk, string_bytes, codes};
 ghost use Rattle.std.specs.Fmt.{decimal};
-ghost use Rattle.config_text.specs.Words.{line, option_words, spaced};
+ghost use Rattle.config_text.specs.Words.{line as whole_line, option_words, spaced};
 ghost use Rattle.config_text.specs.Lines.{class_text, classify_text, verdict_text, proto_text, host_match_words, host_words, host_text};
 
 use crate::line::Line;
-use merlin_base::{Name, OutOfMemory, ip_text};
+use merlin_base::{Name, OutOfMemory};
 use merlin_model::config::{HostLine, HostMatch};
 use std::alloc::Global;
 
@@ -14,52 +14,47 @@ const POSTROUTING: &[u8] = b"iptables -t mangle -A POSTROUTING";
 
 const OUTPUT: &[u8] = b"iptables -A OUTPUT";
 
-fn proto_text(alloc: Global, proto: u8) -> Result<String, OutOfMemory>
-    ensures { IfOk result (λ text. string_bytes text ≡ proto_text proto) }
+fn proto(line: &mut Line, proto: u8) -> Result<(), OutOfMemory>
+    ensures { OnOk result (line.new ≡ line.old ++ proto_text proto) }
 {
     match proto {
-        6 => Ok(String::from_str(alloc, "tcp")?),
-        17 => Ok(String::from_str(alloc, "udp")?),
-        _ => Ok(format!(in alloc; "{proto}")?),
+        6 => line.text(b"tcp"),
+        17 => line.text(b"udp"),
+        _ => line.number(u64::from(proto)),
     }
 }
 
-fn proto_words(alloc: Global, line: &mut Line, proto: Option<u8>) -> Result<(), OutOfMemory>
+fn proto_words(line: &mut Line, value: Option<u8>) -> Result<(), OutOfMemory>
     ensures { OnOk result (line.new ≡ line.old
-        ++ spaced (option_words (codes "-p") proto_text proto)) }
+        ++ spaced (option_words (codes "-p") proto_text value)) }
 {
-    if let Some(proto) = proto {
-        line.word(b"-p")?;
-        line.word(proto_text(alloc, proto)?.as_bytes())?;
+    if let Some(value) = value {
+        line.text(b" -p ")?;
+        proto(line, value)?;
     }
     Ok(())
 }
 
-fn port_words(
-    alloc: Global,
-    line: &mut Line,
-    name: &[u8],
-    port: Option<u16>,
-) -> Result<(), OutOfMemory>
+fn port_words(line: &mut Line, name: &[u8], port: Option<u16>) -> Result<(), OutOfMemory>
     ensures { OnOk result (line.new ≡ line.old ++ spaced (option_words name.now decimal port)) }
 {
     if let Some(port) = port {
         line.word(name)?;
-        line.number(alloc, u64::from(port))?;
+        line.number_word(u64::from(port))?;
     }
     Ok(())
 }
 
-fn host_match_words(alloc: Global, line: &mut Line, fits: &HostMatch) -> Result<(), OutOfMemory>
+fn host_match_words(line: &mut Line, fits: &HostMatch) -> Result<(), OutOfMemory>
     ensures { OnOk result (line.new ≡ line.old ++ spaced (host_match_words fits.now)) }
 {
-    line.word(b"-s")?;
-    line.word(ip_text(alloc, fits.src)?.bytes())?;
-    line.word(b"-d")?;
-    line.word(ip_text(alloc, fits.dst)?.bytes())?;
-    proto_words(alloc, line, fits.proto)?;
-    port_words(alloc, line, b"--sport", fits.sport)?;
-    port_words(alloc, line, b"--dport", fits.dport)
+    line.text(b" -s ")?;
+    line.ip(fits.src)?;
+    line.text(b" -d ")?;
+    line.ip(fits.dst)?;
+    proto_words(line, fits.proto)?;
+    port_words(line, b"--sport", fits.sport)?;
+    port_words(line, b"--dport", fits.dport)
 }
 
 fn class_text(alloc: Global, class: u16, rate: u64, ceil: u64) -> Result<String, OutOfMemory>
@@ -84,7 +79,6 @@ fn verdict_text(drop: bool) -> &'static [u8]
 
 // A list of iptables, what a line of it matches, and what the line does.
 fn list_words(
-    alloc: Global,
     line: &mut Line,
     list: &[u8],
     fits: &HostMatch,
@@ -94,7 +88,7 @@ fn list_words(
         ++ spaced (list.now ∷ host_match_words fits.now ++ target.now ∷ [])) }
 {
     line.word(list)?;
-    host_match_words(alloc, line, fits)?;
+    host_match_words(line, fits)?;
     line.word(target)
 }
 
@@ -112,29 +106,24 @@ fn host_words(alloc: Global, line: &mut Line, host: &HostLine) -> Result<(), Out
         } => line.word(class_text(alloc, *class, *rate, *ceil)?.as_bytes()),
         HostLine::Classify { fits, class, .. } => {
             let target = classify_text(alloc, *class)?;
-            list_words(alloc, line, POSTROUTING, fits, target.as_bytes())
+            list_words(line, POSTROUTING, fits, target.as_bytes())
         }
-        HostLine::Leave { fits, .. } => list_words(alloc, line, POSTROUTING, fits, b"-j RETURN"),
-        HostLine::Output { fits, drop, .. } => list_words(
-            alloc,
-            line,
-            OUTPUT,
-            fits,
-            verdict_text(*drop),
-        ),
+        HostLine::Leave { fits, .. } => list_words(line, POSTROUTING, fits, b"-j RETURN"),
+        HostLine::Output { fits, drop, .. } => list_words(line, OUTPUT, fits, verdict_text(*drop)),
     }
 }
 
 /// The line of a host, from its name.
 pub(crate) fn host_line(
     alloc: Global,
+    line: &mut Line,
     location: &Name,
     host: &HostLine,
-) -> Result<Name, OutOfMemory>
-    ensures { IfOk result (λ text. text ≡ line (host_text location.now host.now)) }
+) -> Result<(), OutOfMemory>
+    ensures { OnOk result (line.new ≡ whole_line (host_text location.now host.now)) }
 {
-    let mut line = Line::new(alloc, "host")?;
+    line.begin(b"host")?;
     line.word(location.bytes())?;
-    host_words(alloc, &mut line, host)?;
-    line.end()
+    host_words(alloc, line, host)?;
+    line.byte(b'\n')
 }

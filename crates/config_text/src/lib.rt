@@ -5,11 +5,14 @@ mod config;
 mod fields;
 mod hosts;
 mod line;
+mod lists;
 mod loads;
 mod rules;
+mod writing;
 
 pub use config::print;
 pub use loads::{Load, print_loads};
 pub use merlin_model::config::{
     Action, Actions, Config, HostLine, HostMatch, Match, Out, Process, Queue, Rule, Vlan,
 };
+pub use writing::write_config;

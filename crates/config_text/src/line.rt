@@ -1,9 +1,10 @@
-//! Lines and lists under construction.
+//! A line under construction. One buffer serves all lines of a text, each piece is written to its end.
 
-ghost use Rattle.std.specs.Prelude.{◌≡◌, ◌++◌, ◌∷◌, [], ℕ, List, OnOk, IfOk, map};
-ghost use Rattle.std.specs.Fmt.{decimal};
-ghost use Rattle.config_text.specs.Words.{joined_by_commas};
+ghost use Rattle.std.specs.Prelude.{◌≡◌, ◌<◌, ◌++◌, ◌∷◌, [], ℕ, List, OnOk, IfOk, false};
+ghost use Rattle.std.specs.Fmt.{decimal, digit_glyph};
+ghost use Rattle.merlin_base.specs.Addresses.{mac_text, ip_text};
 
+use itoa::Buffer;
 use merlin_base::{Name, OutOfMemory, name_from};
 use std::alloc::Global;
 use std::marker::Model;
@@ -20,13 +21,109 @@ impl Model for Line {
     ghost view = { λ line. line.text.items };
 }
 
+// A hexadecimal digit, in lower case.
+fn hex_digit(value: u8) -> u8
+    requires { value < 16 }
+    ensures { result ≡ digit_glyph false value }
+{
+    if value < 10 {
+        b'0' + value
+    } else {
+        b'a' + (value - 10)
+    }
+}
+
+// An Ethernet address, of which the lowest 48 bits count.
+fn mac_digits(eth: u64) -> [u8; 17]
+    ensures { result ≡ mac_text eth }
+{
+    let [_, _, a, b, c, d, e, f] = eth.to_be_bytes();
+    [
+        hex_digit(a / 16),
+        hex_digit(a % 16),
+        b':',
+        hex_digit(b / 16),
+        hex_digit(b % 16),
+        b':',
+        hex_digit(c / 16),
+        hex_digit(c % 16),
+        b':',
+        hex_digit(d / 16),
+        hex_digit(d % 16),
+        b':',
+        hex_digit(e / 16),
+        hex_digit(e % 16),
+        b':',
+        hex_digit(f / 16),
+        hex_digit(f % 16),
+    ]
+}
+
 impl Line {
-    /// A line that begins with this word.
-    pub(crate) fn new(alloc: Global, word: &str) -> Result<Line, OutOfMemory>
-        ensures { IfOk result (λ line. line ≡ word.now) }
+    /// An empty line.
+    pub(crate) fn new(alloc: Global) -> Line
+        ensures { result ≡ [] }
     {
-        let text = Vec::from_slice(alloc, word.as_bytes())?;
-        Ok(Line { text })
+        Line {
+            text: Vec::new(alloc),
+        }
+    }
+
+    /// Begins anew, with this word.
+    pub(crate) fn begin(&mut self, word: &[u8]) -> Result<(), OutOfMemory>
+        ensures { OnOk result (self.new ≡ word.now) }
+    {
+        self.text.clear();
+        self.text.extend_from_slice(word)?;
+        Ok(())
+    }
+
+    /// These bytes.
+    pub(crate) fn text(&mut self, text: &[u8]) -> Result<(), OutOfMemory>
+        ensures { OnOk result (self.new ≡ self.old ++ text.now) }
+    {
+        self.text.extend_from_slice(text)?;
+        Ok(())
+    }
+
+    /// One byte.
+    pub(crate) fn byte(&mut self, byte: u8) -> Result<(), OutOfMemory>
+        ensures { OnOk result (self.new ≡ self.old ++ byte ∷ []) }
+    {
+        self.text.push(byte)?;
+        Ok(())
+    }
+
+    /// A number in decimal.
+    pub(crate) fn number(&mut self, value: u64) -> Result<(), OutOfMemory>
+        ensures { OnOk result (self.new ≡ self.old ++ decimal value) }
+    {
+        let mut digits = Buffer::new();
+        self.text
+            .extend_from_slice(digits.format(value).as_bytes())?;
+        Ok(())
+    }
+
+    /// An Ethernet address.
+    pub(crate) fn mac(&mut self, eth: u64) -> Result<(), OutOfMemory>
+        ensures { OnOk result (self.new ≡ self.old ++ mac_text eth) }
+    {
+        self.text.extend_from_slice(&mac_digits(eth))?;
+        Ok(())
+    }
+
+    /// An IPv4 address.
+    pub(crate) fn ip(&mut self, ip: u32) -> Result<(), OutOfMemory>
+        ensures { OnOk result (self.new ≡ self.old ++ ip_text ip) }
+    {
+        let [a, b, c, d] = ip.to_be_bytes();
+        self.number(u64::from(a))?;
+        self.byte(b'.')?;
+        self.number(u64::from(b))?;
+        self.byte(b'.')?;
+        self.number(u64::from(c))?;
+        self.byte(b'.')?;
+        self.number(u64::from(d))
     }
 
     /// One more word, after a space.
@@ -39,38 +136,24 @@ impl Line {
     }
 
     /// One more word, a number in decimal.
-    pub(crate) fn number(&mut self, alloc: Global, value: u64) -> Result<(), OutOfMemory>
+    pub(crate) fn number_word(&mut self, value: u64) -> Result<(), OutOfMemory>
         ensures { OnOk result (self.new ≡ self.old ++ 32 ∷ decimal value) }
     {
-        let word = format!(in alloc; "{value}")?;
-        self.word(word.as_bytes())
+        self.text.push(b' ')?;
+        self.number(value)
     }
 
-    /// The whole line, with its newline.
-    pub(crate) fn end(self) -> Result<Name, OutOfMemory>
-        ensures { IfOk result (λ name. name ≡ self ++ 10 ∷ []) }
+    /// What is written so far.
+    pub(crate) fn bytes(&self) -> &[u8]
+        ensures { result.now ≡ self.now }
     {
-        let Line { mut text } = self;
-        text.push(b'\n')?;
-        name_from(*text.allocator(), &text)
+        &self.text
     }
-}
 
-/// The texts joined by commas, or this word where there is none.
-pub(crate) fn joined_by_commas(
-    alloc: Global,
-    none: &str,
-    texts: &[Name],
-) -> Result<Name, OutOfMemory>
-    ensures { IfOk result (λ text. text ≡ joined_by_commas none.now texts.now) }
-{
-    let Some((first, rest)) = texts.split_first() else {
-        return name_from(alloc, none.as_bytes());
-    };
-    let mut joined = Vec::from_slice(alloc, first.bytes())?;
-    for text in rest {
-        joined.push(b',')?;
-        joined.extend_from_slice(text.bytes())?;
+    /// A copy of what is written so far.
+    pub(crate) fn name(&self) -> Result<Name, OutOfMemory>
+        ensures { IfOk result (λ name. name ≡ self.now) }
+    {
+        name_from(*self.text.allocator(), &self.text)
     }
-    name_from(alloc, &joined)
 }

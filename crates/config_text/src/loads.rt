@@ -1,9 +1,8 @@
 //! Lines of loads: what guaranteed statements put on directed links.
 
-ghost use Rattle.std.specs.Prelude.{◌≡◌, ◌<◌, ◌++◌, length, IfOk};
-ghost use Rattle.std.specs.Fmt.{decimal};
+ghost use Rattle.std.specs.Prelude.{◌≡◌, ◌<◌, ◌++◌, length, IfOk, OnOk};
 ghost use Rattle.std.specs.List.{All};
-ghost use Rattle.config_text.specs.Words.{line};
+ghost use Rattle.config_text.specs.Words.{line as whole_line};
 ghost use Rattle.config_text.specs.Loads.{load_text, load_lines};
 
 use crate::line::Line;
@@ -21,16 +20,16 @@ pub struct Load {
 }
 
 // The line of a load, from the name of its location.
-fn load_line(alloc: Global, location: &Name, load: &Load) -> Result<Name, OutOfMemory>
-    ensures { IfOk result (λ text. text ≡ line (load_text location.now load.now)) }
+fn load_line(line: &mut Line, location: &Name, load: &Load) -> Result<(), OutOfMemory>
+    ensures { OnOk result (line.new ≡ whole_line (load_text location.now load.now)) }
 {
-    let mut line = Line::new(alloc, "load")?;
+    line.begin(b"load")?;
     line.word(location.bytes())?;
-    line.number(alloc, u64::from(load.port))?;
-    let Load { load, capacity, .. } = *load;
-    let ratio = format!(in alloc; "{load}/{capacity}")?;
-    line.word(ratio.as_bytes())?;
-    line.end()
+    line.number_word(u64::from(load.port))?;
+    line.number_word(load.load)?;
+    line.byte(b'/')?;
+    line.number(load.capacity)?;
+    line.byte(b'\n')
 }
 
 /// The lines of loads, each with its newline, in the order that is given.
@@ -39,8 +38,10 @@ pub fn print_loads(alloc: Global, loads: &[Load], net: &Topology) -> Result<Vec<
     ensures { IfOk result (λ lines. lines.items ≡ load_lines net.now loads.now) }
 {
     let mut lines = Vec::new(alloc);
+    let mut line = Line::new(alloc);
     for load in loads {
-        lines.push(load_line(alloc, net.name(load.loc), load)?)?;
+        load_line(&mut line, net.name(load.loc), load)?;
+        lines.push(line.name()?)?;
     }
     Ok(lines)
 }

@@ -35,6 +35,10 @@ pub all-mapped : {X A : Type 0} (P : A → Type 0) (f : X → A) (xs : List X) �
 all-mapped P f [] each = tt
 all-mapped P f (x ∷ xs) each = (each x (inl refl), all-mapped P f xs (λ y i. each y (inr i)))
 
+pub all-chosen : {X : Type 0} (P : X → Type 0) (b : Bool) (xs ys : List X) → AllByRecursion P xs → AllByRecursion P ys → AllByRecursion P (cond b xs ys)
+all-chosen P true xs ys h g = h
+all-chosen P false xs ys h g = g
+
 range-from : (a n k : ℕ) → In k (range_with_len a n) → k < a + n
 range-from a zero k i = absurd i
 range-from a (suc n) k (inl e) = omega arith
@@ -55,7 +59,7 @@ known-below net loc kind e = by (slice_get net.locations loc) refl e
 -- Rules.
 
 module _ (net : Network) (plan : Plan) where
-  IsAt : ℕ → Rule → Type 0
+  abbrev IsAt : ℕ → Rule → Type 0
   IsAt loc r = r.loc ≡ loc
 
   row-at : (loc : ℕ) (row : TableRow) → loc_of row.vertex ≡ loc → (tag : Option ℕ) → AllByRecursion (IsAt loc) (rules_by_tag row tag)
@@ -80,7 +84,7 @@ module _ (net : Network) where
   abbrev IsDeclared : ℕ → Type 0
   IsDeclared f = f < length net.functions
 
-  IsKnown : Vertex → Type 0
+  abbrev IsKnown : Vertex → Type 0
   IsKnown v = IsSymbol net v.symbol
 
   declared : (f : ℕ) (loc : ℕ) → MatchOption (places_of net f) ⊥ (λ places. Contains places loc) → IsDeclared f
@@ -171,15 +175,11 @@ module _ (net : Network) where
 -- Queues.
 
 module _ (net : Network) (policy : Policy) where
-  QueuesAt : ℕ → Queue → Type 0
+  abbrev QueuesAt : ℕ → Queue → Type 0
   QueuesAt loc q = q.loc ≡ loc
 
   line-at : (link : DirectedLink) (n : ℕ) (e : Ends) (w : List Symbol) → AllByRecursion (QueuesAt link.from) (queue_line policy link n e w)
-  line-at link n e w = by (nat_lt 0 (crossings w link.from link.to))
-    where
-      by : (b : Bool) → AllByRecursion (QueuesAt link.from) (cond b _ [])
-      by true = (refl, tt)
-      by false = tt
+  line-at link n e w = all-chosen (QueuesAt link.from) (nat_lt 0 (crossings w link.from link.to)) _ [] (refl, tt) tt
 
   queues-at : (link : DirectedLink) (n : ℕ) (ends : List Ends) (walks : List (List Symbol)) → AllByRecursion (QueuesAt link.from) (queues_on policy link n ends walks)
   queues-at link n [] walks = tt

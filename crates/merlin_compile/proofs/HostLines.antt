@@ -26,7 +26,7 @@ module _ (net : Network) (policy : Policy) (sources : List (List ℕ)) (cells : 
   headed-here (l ∷ lines) h = (refl, h)
 
   reading-here : (d : ℕ) (c : HostCell) → AllByRecursion IsHere (reading_of net policy sources cells s d c)
-  reading-here d c = all-chosen IsHere (is_classed net policy sources cells (owner_is net policy sources cells c) s) _ _ (refl, refl, tt) (refl, tt)
+  reading-here d c = all-chosen IsHere (is_classed net policy sources cells (owner_is net policy sources cells c) s) _ _ (refl, (refl, tt)) (refl, tt)
 
   readings-here : (d : ℕ) → AllByRecursion IsHere (readings net policy sources cells s d)
   readings-here d =

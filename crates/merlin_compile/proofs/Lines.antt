@@ -64,7 +64,7 @@ module _ (net : Network) (plan : Plan) where
 
   row-at : (loc : ℕ) (row : TableRow) → loc_of row.vertex ≡ loc → (tag : Option ℕ) → AllByRecursion (IsAt loc) (rules_by_tag row tag)
   row-at loc row here None = (here, tt)
-  row-at loc row here (Some n) = (here, here, tt)
+  row-at loc row here (Some n) = (here, (here, tt))
 
   rules-at : (loc : ℕ) → AllByRecursion (IsAt loc) (rules_at net plan loc)
   rules-at loc =
@@ -106,11 +106,9 @@ module _ (net : Network) where
 
   here-declared : (loc : ℕ) (us : List Vertex) → AllByRecursion IsKnown us → AllByRecursion IsDeclared (functions_here loc us)
   here-declared loc [] h = tt
-  here-declared loc (u ∷ us) h = by (loc_of u == loc)
-    where
-      by : (b : Bool) → AllByRecursion IsDeclared (cond b (functions_of u.symbol ++ functions_here loc us) [])
-      by true = all_both IsDeclared (functions_of u.symbol) (functions_here loc us) (symbol-declared u.symbol h.0) (here-declared loc us h.1)
-      by false = tt
+  here-declared loc (u ∷ us) h =
+      all-chosen IsDeclared (loc_of u == loc) (functions_of u.symbol ++ functions_here loc us) []
+      (all_both IsDeclared (functions_of u.symbol) (functions_here loc us) (symbol-declared u.symbol h.0) (here-declared loc us h.1)) tt
 
   -- What follows in a product is known.
 

@@ -1,5 +1,5 @@
 -- The lines for a policy with given automata and walks are determined.
-use Rattle.std.proofs.Common.{◌≡◌, ◌<◌, ◌≤◌, ◌⊎◌, inl, inr, ℕ, zero, suc, List, [], ◌∷◌, length, slice_get, Option, Some, refl, sym, ◌∙◌, ap, ap₂, subst, arith}
+use Rattle.std.proofs.Common.{◌≡◌, ◌<◌, ◌≤◌, ◌⊎◌, inl, inr, ℕ, suc, List, [], ◌∷◌, length, slice_get, Some, refl, sym, ◌∙◌, ap, ap₂, subst, arith}
 use Rattle.merlin_model.specs.declared.config.Config.{Config}
 use Rattle.merlin_model.specs.declared.policy.Ends.{Ends}
 use Rattle.merlin_model.specs.declared.policy.Symbol.{Symbol}
@@ -12,14 +12,13 @@ use Rattle.path_automaton.specs.Automata.{AutomatonTables}
 use Rattle.topology.specs.Symbols.{network_symbols}
 use Rattle.rules_model.specs.Products.{Group, AreWrittenWalks}
 use Rattle.rules_model.specs.Tables.{Cell, Plan, IsPlan, IsInOrder, table_rules, table_processes}
-use Rattle.product_graph.proofs.Lists.{some-same, lt-or-ge}
+use Rattle.product_graph.proofs.Lists.{lt-or-ge}
 use Rattle.configuration_model.specs.Groups.{Leads, AreGrouped, AreGroups}
 use Rattle.configuration_model.specs.Hosts.{host_lines}
 use Rattle.configuration_model.specs.Pairs.{pair_cells}
 use Rattle.configuration_model.specs.Tables.{AreSources, grouped_cells}
 use Rattle.configuration_model.proofs.Lists.{pairwise-place, zip-right}
 use Rattle.merlin_compile.specs.Parts.{HasLinesFor}
-use Rattle.merlin_compile.proofs.Few.{none-some}
 use Rattle.merlin_compile.proofs.Groups.{leaders-same, groups-of-same}
 
 -- lists with the same elements at the same places are one

@@ -1,25 +1,21 @@
 -- What is within the limits of rules passes none: the groups of a policy, their tags and their entries are determined.
-use Rattle.std.proofs.Common.{◌≡◌, ◌≤◌, ◌<◌, ◌+◌, ◌⊎◌, ℕ, zero, suc, inl, inr, List, [], ◌∷◌, length, map, slice_get, Contains, Option, None, Some, refl, sym, ◌∙◌, ap, ap₂, subst, arith}
+use Rattle.std.proofs.Common.{◌≡◌, ◌≤◌, ◌<◌, ℕ, inl, inr, List, [], ◌∷◌, length, slice_get, Some, refl, sym, ◌∙◌, ap, subst, arith}
 use Rattle.std.specs.Prelude.{sum_by}
-use Rattle.std.specs.List.{AllByRecursion, AllZip}
+use Rattle.std.specs.List.{AllByRecursion}
 use Rattle.merlin_model.specs.declared.policy.Ends.{Ends}
 use Rattle.merlin_model.specs.declared.policy.Symbol.{Symbol}
 use Rattle.merlin_model.specs.Networks.{Network}
 use Rattle.merlin_model.specs.Words.{at}
-use Rattle.merlin_model.specs.Rates.{min_of, IsGuaranteed}
 use Rattle.merlin_model.specs.Assignments.{AreAllEnds}
-use Rattle.merlin_model.proofs.Members.{In, in_from, in_to, in_map, all_in}
-use Rattle.merlin_model.proofs.Ascending.{ascending-one, ascending-same}
+use Rattle.merlin_model.proofs.Members.{in_from, in_to, all_in}
+use Rattle.merlin_model.proofs.Ascending.{ascending-one}
 use Rattle.topology.specs.Symbols.{network_symbols}
 use Rattle.rules_model.specs.Products.{Vertex, loc_of, function_place, Group}
 use Rattle.rules_model.specs.Tables.{TagKey, IsBelow, IsBelowKey, IsTagKey}
-use Rattle.product_graph.specs.Products.{automaton_of, IsBefore}
-use Rattle.product_graph.proofs.Lists.{some-same}
+use Rattle.product_graph.specs.Products.{IsBefore}
 use Rattle.path_automaton.proofs.Building.{get-map}
-use Rattle.predicate_split.specs.declared.fault.TheConstants.{MAX_CELLS}
 use Rattle.policy_check.specs.Checked.{CheckedPolicy}
-use Rattle.configuration_model.specs.Groups.{AreGrouped, IsGroupOf, AreGroups, written_walk_of}
-use Rattle.configuration_model.proofs.Lists.{in-at}
+use Rattle.configuration_model.specs.Groups.{AreGroups}
 use Rattle.openflow_rules.specs.declared.fault.TheConstants.{MAX_TAGS, MAX_ENTRIES}
 use Rattle.openflow_rules.specs.declared.fault.RuleFault.{RuleFault}
 use Rattle.openflow_rules.specs.declared.fault.RuleFault.TheVariants.{TooManyTags, TooManyCells, TooManyEntries, OutOfMemory}

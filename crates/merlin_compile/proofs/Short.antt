@@ -1,5 +1,5 @@
 -- Walks without a repeated vertex are short: no longer than there are symbols and states.
-use Rattle.std.proofs.Common.{◌≡◌, ◌≤◌, ◌<◌, ◌+◌, ◌*◌, ◌^◌, ◌⊎◌, ℕ, zero, suc, inl, inr, Bool, true, false, cond, List, [], ◌∷◌, ◌++◌, length, map, filter, slice_get, Contains, Option, Some, refl, sym, ◌∙◌, ap, subst, arith}
+use Rattle.std.proofs.Common.{◌≡◌, ◌≤◌, ◌<◌, ◌+◌, ◌*◌, ◌⊎◌, ℕ, zero, suc, inl, inr, Bool, true, false, cond, List, [], ◌∷◌, length, map, filter, slice_get, Some, refl, sym, ap, subst, arith}
 use Rattle.std.proofs.Math.Nat.{suc-mul}
 use Rattle.std.specs.List.{AllByRecursion, enumerate_from, flat_map, range_with_len}
 use Rattle.std.proofs.lemmas.List.{length-append, length-map}
@@ -7,21 +7,19 @@ use Rattle.merlin_model.specs.declared.network.FnDecl.{FnDecl}
 use Rattle.merlin_model.specs.declared.policy.Ends.{Ends}
 use Rattle.merlin_model.specs.declared.policy.Symbol.{Symbol}
 use Rattle.merlin_model.specs.Networks.{Network}
-use Rattle.merlin_model.specs.Words.{at, IsSymbol, IsWalk}
+use Rattle.merlin_model.specs.Words.{at}
 use Rattle.merlin_model.proofs.Members.{In, map_in, flat_map_in, all_in}
 use Rattle.path_regex.specs.Normal.{normal_of}
-use Rattle.path_automaton.specs.declared.exploring.TheConstants.{MAX_STATES}
-use Rattle.path_automaton.specs.States.{with_all_new, followers}
+use Rattle.path_automaton.specs.States.{followers}
 use Rattle.path_automaton.specs.Automata.{AutomatonTables, AreTablesOfPath, step, number_in}
 use Rattle.path_automaton.proofs.Noting.{with_all_new-keeps}
 use Rattle.path_automaton.proofs.Listed.{number-at}
 use Rattle.path_automaton.proofs.Building.{get-below, below-get}
-use Rattle.topology_rules.specs.declared.limits.TheConstants.{MAX_LOCATIONS, MAX_FUNCTIONS}
 use Rattle.topology.specs.Symbols.{is_placed_at, functions_placed_at, at_with, symbols_at, network_symbols}
 use Rattle.rules_model.specs.Products.{SymbolAutomaton, Vertex, start_of}
 use Rattle.product_graph.specs.Products.{automaton_of}
 use Rattle.product_graph.proofs.Lists.{lt-or-ge}
-use Rattle.configuration_model.specs.Groups.{vertices_after, written_after, HasDifferentVertices}
+use Rattle.configuration_model.specs.Groups.{vertices_after, HasDifferentVertices}
 use Rattle.merlin_compile.proofs.Few.{few-different}
 
 -- How many there are.

@@ -29,8 +29,11 @@ use Rattle.openflow_rules.proofs.Rooms.{all-mapped}
 
 -- The predicate of a statement.
 
-suc-same : {m n : ℕ} → suc m ≡ suc n → m ≡ n
-suc-same e = omega (arith, e)
+one-less : (m n : ℕ) → 1 + m ≡ suc n → m ≡ n
+one-less m n e = omega (arith, e)
+
+one-more : (m n : ℕ) → m ≡ n → 1 + m ≡ suc n
+one-more m n e = omega (arith, e)
 
 no-suc : {n : ℕ} → 0 ≡ suc n → ⊥
 no-suc e = omega (arith, e)
@@ -43,7 +46,7 @@ unmatched (s ∷ ss) p = by (holds s.pred p) (unmatched ss p)
     by : (b : Bool) → (match_among ss p ≡ length ss) ↔ (list_any (λ q. holds q p) (map (λ s. s.pred) ss) ≡ false) →
         (cond b 0 (1 + match_among ss p) ≡ suc (length ss)) ↔ ((b || list_any (λ q. holds q p) (map (λ s. s.pred) ss)) ≡ false)
     by true rest = (λ e. absurd (no-suc e), λ e. absurd (false-true (sym e)))
-    by false rest = (λ e. rest.0 (suc-same e), λ e. ap suc (rest.1 e))
+    by false rest = (λ e. rest.0 (one-less (match_among ss p) (length ss) e), λ e. one-more (match_among ss p) (length ss) (rest.1 e))
 
 not-true : (b : Bool) → (b ≡ false) ↔ (not b ≡ true)
 not-true true = (λ e. absurd (false-true (sym e)), λ e. absurd (false-true e))
@@ -168,7 +171,13 @@ rows-within net policy i rows are = all-contained _ rows within
       contained-all (λ k. k < length net.locations) (all_hosts net) row.dest (hosts-below net) (in_to (all_hosts net) row.dest (subst (In row.dest) are.dests (map_in (λ (r : WalkRow). r.dest) rows row (in_from rows row c)))),
     )
 
--- All hosts ascend.
+-- All hosts.
+
+pub all-hosts : (net : Network) (hosts : List ℕ) (i : ℕ) → hosts ≡ all_hosts net → i < length hosts → IsHost net (get_or hosts i 0)
+all-hosts net hosts i are lt =
+    all-at (IsHost net) hosts i 0 lt
+    (subst (AllByRecursion (IsHost net)) (sym are)
+    (all-contained (IsHost net) (all_hosts net) (λ s c. (in_filter (λ loc. is_host_kind (kind_of net loc)) (range_with_len 0 (length net.locations)) s (in_from (all_hosts net) s c)).1)))
 
 range-up : (a n : ℕ) → Pairwise (λ h k. h < k) (range_with_len a n)
 range-up a zero = tt
@@ -188,6 +197,18 @@ filter-up t (x ∷ xs) p = by (t x) (filter-up t xs p.1)
 
 pub hosts-up : (net : Network) → Pairwise (λ h k. h < k) (all_hosts net)
 hosts-up net = filter-up (λ loc. is_host_kind (kind_of net loc)) (range_with_len 0 (length net.locations)) (range-up 0 (length net.locations))
+
+pub up-taken : (xs : List ℕ) (n : ℕ) → Pairwise (λ h k. h < k) xs → Pairwise (λ h k. h < k) (take n xs)
+up-taken [] zero up = tt
+up-taken [] (suc n) up = tt
+up-taken (x ∷ xs) zero up = tt
+up-taken (x ∷ xs) (suc n) up = (front xs n up.0, up-taken xs n up.1)
+  where
+    front : (ys : List ℕ) (n : ℕ) → AllByRecursion (λ k. x < k) ys → AllByRecursion (λ k. x < k) (take n ys)
+    front [] zero h = tt
+    front [] (suc n) h = tt
+    front (y ∷ ys) zero h = tt
+    front (y ∷ ys) (suc n) h = (h.0, front ys n h.1)
 
 -- Rows and hosts, one after the other.
 
@@ -222,3 +243,9 @@ module _ (net : Network) (pred : Pred) (rows : List WalkRow) where
       from : (s : ℕ) → Contains hosts s ⊎ (s ≡ x) → SendsAlong net pred rows s → Contains old s
       from s (inl c) sends = (h.each s).1 (c, sends)
       from s (inr e) sends = absurd (kept.0 (subst (SendsAlong net pred rows) e sends))
+
+  pub senders-more : (hosts : List ℕ) (i : ℕ) (old new : List ℕ) → i < length hosts → Pairwise (λ h k. h < k) hosts → AreSenders net pred rows (take i hosts) old → IsPutIf (SendsAlong net pred rows (get_or hosts i 0)) (get_or hosts i 0) old new →
+      AreSenders net pred rows (take (i + 1) hosts) new
+  senders-more hosts i old new lt up h put =
+      let more = take-more hosts i 0 lt in
+      subst (λ l. AreSenders net pred rows l new) (sym more) (senders-next (take i hosts) (get_or hosts i 0) old new (subst (Pairwise (λ h k. h < k)) more (up-taken hosts (i + 1) up)) h put)

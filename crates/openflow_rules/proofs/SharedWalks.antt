@@ -1,9 +1,9 @@
 -- Statements of one group have the same walks, so that one automaton tells where all of these start.
-use Rattle.std.proofs.Common.{◌≡◌, ◌<◌, ◌⊎◌, ◌↔◌, inl, inr, ℕ, true, List, [], ◌∷◌, length, map, slice_get, Some, refl, sym, ◌∙◌, ap, subst}
+use Rattle.std.proofs.Common.{◌≡◌, ◌<◌, ◌⊎◌, ◌↔◌, inl, inr, ℕ, Bool, true, List, [], ◌∷◌, length, map, slice_get, Some, refl, sym, ◌∙◌, ap, subst}
 use Rattle.std.specs.List.{AllByRecursion, flat_map}
 use Rattle.merlin_model.specs.declared.policy.Path.{Path}
 use Rattle.merlin_model.specs.declared.policy.Symbol.{Symbol}
-use Rattle.merlin_model.specs.Networks.{Network}
+use Rattle.merlin_model.specs.Networks.{Network, IsHost}
 use Rattle.merlin_model.specs.Words.{IsSymbol}
 use Rattle.merlin_model.specs.Paths.{InLanguage}
 use Rattle.merlin_model.specs.Policies.{IsOnPath, paths_of}
@@ -18,14 +18,17 @@ use Rattle.path_automaton.proofs.Listed.{number-at, accepts-listed}
 use Rattle.path_automaton.proofs.Building.{below-get}
 use Rattle.topology.specs.Symbols.{network_symbols}
 use Rattle.rules_model.specs.Products.{ending_state}
-use Rattle.product_graph.specs.Products.{automaton_of}
+use Rattle.product_graph.specs.declared.span.Product.{Product}
+use Rattle.product_graph.specs.declared.span.Span2.TheVariants.{All}
+use Rattle.product_graph.specs.Products.{automaton_of, IsProduct}
 use Rattle.product_graph.proofs.Lists.{some-same, all-map}
 use Rattle.product_graph.proofs.Ordered.{ordered}
 use Rattle.policy_check.specs.Checked.{CheckedPolicy, HasAutomata, automaton_of_statement}
 use Rattle.configuration_model.specs.Groups.{HaveOneForm, Leads}
 use Rattle.configuration_model.proofs.Numbered.{takes}
 use Rattle.openflow_rules.specs.declared.walk_rows.WalkRow.{WalkRow}
-use Rattle.openflow_rules.specs.Sources.{StartsWalk, IsWalkRow, AreWalkRows}
+use Rattle.openflow_rules.specs.Sources.{StartsWalk, AreMarkedAmong, loc_at, IsWalkRow, AreWalkRows}
+use Rattle.openflow_rules.proofs.WalkStarts.{walks-start}
 
 -- whether a word is accepted goes by the normal form of the path
 module _ (path : Path) (symbols : List Symbol) (t : AutomatonTables) (forms : List Path) (are : AreTablesOfPath path symbols t forms) where
@@ -55,6 +58,19 @@ module _ (net : Network) (checked : CheckedPolicy) (automata : HasAutomata (netw
         λ on. subst (λ u. (automaton_of (network_symbols net) u).accepts (ending_state (automaton_of (network_symbols net) u) 0 w) ≡ true) same
             (told.1 (subst (λ p. InLanguage p w) (some-same (sym on.has ∙ path.1)) on.described)),
       )
+
+  pub width-of : (i : ℕ) (table : AutomatonTables) → i < length (paths_of checked.policy) → automaton_of_statement checked i ≡ Some table → table.width ≡ length (network_symbols net)
+  width-of i table lt is =
+      let path = below-get (paths_of checked.policy) i lt in
+      let t = automata i path.0 path.1 in
+      subst (λ (u : AutomatonTables). u.width ≡ length (network_symbols net)) (some-same (sym t.1 ∙ is)) t.2.built.1.width
+
+  -- the row of a statement, by the product of its automaton
+  pub row-is : (i : ℕ) (table : AutomatonTables) → i < length (paths_of checked.policy) → automaton_of_statement checked i ≡ Some table → (d : ℕ) → IsHost net d → (product : Product) → IsProduct net (automaton_of (network_symbols net) table) (All d) product →
+      (marks : List Bool) → AreMarkedAmong (length net.locations) (map (loc_at product.vertices) product.starts) marks → IsWalkRow net checked.policy i (record { dest = d; marks = marks })
+  row-is i table lt is d dest product made marks marked =
+      let starts = walks-start net (automaton_of (network_symbols net) table) d dest product checked.policy i (takes-path i table lt is) made in
+      record { size = marked.size; each = λ s. (λ e. (starts s).0 ((marked.each s).0 e), λ w. (marked.each s).1 ((starts s).1 w)) }
 
   on-one : (i j : ℕ) → HaveOneForm checked.policy i j → (w : List Symbol) → AllByRecursion (IsSymbol net) w → IsOnPath checked.policy j w → IsOnPath checked.policy i w
   on-one i j h w symbols on =

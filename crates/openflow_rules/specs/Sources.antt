@@ -8,7 +8,7 @@ use Rattle.merlin_model.specs.Packets.{Packet, IsPacket, source_of}
 use Rattle.merlin_model.specs.Predicates.{holds, IsPred}
 use Rattle.merlin_model.specs.Networks.{Network, Pairwise}
 use Rattle.merlin_model.specs.Words.{at, IsWalk}
-use Rattle.merlin_model.specs.Policies.{Policy, match_of, IsOnPath}
+use Rattle.merlin_model.specs.Policies.{Policy, match_of, paths_of, IsOnPath}
 use Rattle.merlin_model.specs.Rates.{AreLiveSources}
 use Rattle.predicate_split.specs.Between.{HoldsBetween}
 use Rattle.product_graph.specs.declared.span.Vertex.{Vertex as ListedVertex}
@@ -104,3 +104,4 @@ pub record IsSourceSearch (search : SourceSearch) : Type 0 where
   pub sound : IsSoundPolicy search.site.checked.now.policy
   pub hosts : search.hosts.now ≡ all_hosts search.site.net.now
   pub default : search.default.now ≡ Not (AnyOf (preds_of search.site.checked.now.policy))
+  pub group_of : length search.group_of.now ≡ length (paths_of search.site.checked.now.policy)

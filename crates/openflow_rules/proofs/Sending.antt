@@ -1,10 +1,10 @@
 -- The hosts that send along the rows of a statement are its live sources.
-use Rattle.std.proofs.Common.{◌≡◌, ◌≢◌, ◌<◌, ◌≤◌, ◌+◌, ◌⊎◌, ◌↔◌, inl, inr, ℕ, zero, suc, Bool, true, false, not, cond, IsTrue, ◌||◌, List, [], ◌∷◌, ◌++◌, length, map, filter, take, get_or, slice_get, Contains, Option, None, Some, refl, sym, ◌∙◌, ap, subst, arith}
-use Rattle.std.specs.Prelude.{IsSome, option_map, unwrap_or}
+use Rattle.std.proofs.Common.{◌≡◌, ◌<◌, ◌≤◌, ◌+◌, ◌⊎◌, ◌↔◌, inl, inr, ℕ, zero, suc, Bool, true, false, not, cond, ◌||◌, List, [], ◌∷◌, ◌++◌, length, map, filter, take, get_or, slice_get, Contains, Option, None, Some, refl, sym, ◌∙◌, ap, subst, arith}
+use Rattle.std.specs.Prelude.{IsSome, unwrap_or}
 use Rattle.std.specs.List.{AllByRecursion, list_any, range_with_len, slice_index_or}
 use Rattle.merlin_model.specs.declared.network.HostAddress.{HostAddress}
 use Rattle.merlin_model.specs.declared.policy.Pred.{Pred, AnyOf, Not}
-use Rattle.merlin_model.specs.Packets.{Packet, IsPacket, source_of, destination_of}
+use Rattle.merlin_model.specs.Packets.{Packet, source_of, destination_of}
 use Rattle.merlin_model.specs.Predicates.{holds, IsPred, AnyOf-holds, Not-holds}
 use Rattle.merlin_model.specs.Networks.{Network, IsHost, Pairwise, address_of, kind_of}
 use Rattle.merlin_model.specs.Policies.{Policy, Statement, match_of, match_among, paths_of, IsOnPath}
@@ -13,8 +13,8 @@ use Rattle.merlin_model.proofs.Members.{In, in_from, in_to, in_map, map_in, in_f
 use Rattle.rules_model.specs.Tables.{all_hosts, is_host_kind}
 use Rattle.predicate_split.specs.Between.{HoldsBetween}
 use Rattle.predicate_split.proofs.Starting.{none_formed}
-use Rattle.product_graph.proofs.Lists.{some-same, none-some, false-true, all-at, all-map, all-from, all-get, all-contained, contained-all, get-below, get-none, contains-left, contains-last, contains-snoc, contains-none, take-more, pairwise-snoc, pairwise-last}
-use Rattle.path_automaton.proofs.Building.{below-get, get-map}
+use Rattle.product_graph.proofs.Lists.{none-some, false-true, all-at, all-get, all-contained, contained-all, get-none, contains-left, contains-last, contains-snoc, contains-none, take-more, pairwise-snoc, pairwise-last}
+use Rattle.path_automaton.proofs.Building.{get-map}
 use Rattle.policy_check.specs.Checked.{IsSoundPolicy}
 use Rattle.policy_check.proofs.Matched.{belongs}
 use Rattle.policy_check.proofs.Guaranteed.{pairwise-increasing}
@@ -22,7 +22,6 @@ use Rattle.configuration_model.specs.Checked.{preds_of}
 use Rattle.configuration_model.specs.Hosts.{host_at}
 use Rattle.configuration_model.proofs.Decided.{host-listed}
 use Rattle.openflow_rules.specs.declared.walk_rows.WalkRow.{WalkRow}
-use Rattle.openflow_rules.specs.Gathered.{AreAllBelow}
 use Rattle.openflow_rules.specs.Sources.{StartsWalk, IsWalkRow, AreWalkRows, IsRowWithin, pred_of_statement, TellsStatement, HoldsNowhereFrom, SendsTo, SendsAlong, IsPutIf, AreSenders}
 use Rattle.openflow_rules.proofs.Inner.{hosts-below}
 use Rattle.openflow_rules.proofs.Rooms.{all-mapped}

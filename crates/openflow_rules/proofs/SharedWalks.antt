@@ -1,5 +1,5 @@
 -- Statements of one group have the same walks, so that one automaton tells where all of these start.
-use Rattle.std.proofs.Common.{◌≡◌, ◌<◌, ◌⊎◌, ◌↔◌, inl, inr, ℕ, Bool, true, List, [], ◌∷◌, length, map, slice_get, Some, refl, sym, ◌∙◌, ap, subst}
+use Rattle.std.proofs.Common.{◌≡◌, ◌<◌, ◌↔◌, inl, inr, ℕ, Bool, true, List, [], ◌∷◌, length, map, slice_get, Some, refl, sym, ◌∙◌, ap, subst}
 use Rattle.std.specs.List.{AllByRecursion, flat_map}
 use Rattle.merlin_model.specs.declared.policy.Path.{Path}
 use Rattle.merlin_model.specs.declared.policy.Symbol.{Symbol}
@@ -27,7 +27,7 @@ use Rattle.policy_check.specs.Checked.{CheckedPolicy, HasAutomata, automaton_of_
 use Rattle.configuration_model.specs.Groups.{HaveOneForm, Leads}
 use Rattle.configuration_model.proofs.Numbered.{takes}
 use Rattle.openflow_rules.specs.declared.walk_rows.WalkRow.{WalkRow}
-use Rattle.openflow_rules.specs.Sources.{StartsWalk, AreMarkedAmong, loc_at, IsWalkRow, AreWalkRows}
+use Rattle.openflow_rules.specs.Sources.{StartsWalk, AreMarkedAmong, listed_loc, IsWalkRow, AreWalkRows}
 use Rattle.openflow_rules.proofs.WalkStarts.{walks-start}
 
 -- whether a word is accepted goes by the normal form of the path
@@ -67,7 +67,7 @@ module _ (net : Network) (checked : CheckedPolicy) (automata : HasAutomata (netw
 
   -- the row of a statement, by the product of its automaton
   pub row-is : (i : ℕ) (table : AutomatonTables) → i < length (paths_of checked.policy) → automaton_of_statement checked i ≡ Some table → (d : ℕ) → IsHost net d → (product : Product) → IsProduct net (automaton_of (network_symbols net) table) (All d) product →
-      (marks : List Bool) → AreMarkedAmong (length net.locations) (map (loc_at product.vertices) product.starts) marks → IsWalkRow net checked.policy i (record { dest = d; marks = marks })
+      (marks : List Bool) → AreMarkedAmong (length net.locations) (map (listed_loc product.vertices) product.starts) marks → IsWalkRow net checked.policy i (record { dest = d; marks = marks })
   row-is i table lt is d dest product made marks marked =
       let starts = walks-start net (automaton_of (network_symbols net) table) d dest product checked.policy i (takes-path i table lt is) made in
       record { size = marked.size; each = λ s. (λ e. (starts s).0 ((marked.each s).0 e), λ w. (marked.each s).1 ((starts s).1 w)) }

@@ -4,7 +4,7 @@ use Rattle.std.specs.Prelude.{slice_set}
 use Rattle.merlin_model.specs.Networks.{Network}
 use Rattle.merlin_model.specs.Policies.{Policy}
 use Rattle.merlin_model.specs.Rates.{AreLiveSources}
-use Rattle.product_graph.proofs.Lists.{some-same, none-some, below_or_at, get-below, map-length}
+use Rattle.product_graph.proofs.Lists.{some-same, below_or_at, get-below}
 use Rattle.path_automaton.proofs.Building.{below-get}
 use Rattle.configuration_model.specs.Groups.{AreGrouped}
 use Rattle.configuration_model.specs.Tables.{AreSources}
@@ -95,13 +95,13 @@ module _ (net : Network) (policy : Policy) (group_of : List ℕ) where
   pub done-all : (leaders : List ℕ) (group : ℕ) (sources : List (List ℕ)) → AreGrouped policy leaders group_of → length leaders ≤ group → AreSourcesUpTo net policy group_of group 0 sources → AreSources net policy sources
   done-all leaders group sources grouped past h = record {
     size = h.size ∙ grouped.size;
-    each = λ i hosts e. (let g = grouped-at i hosts e in h.each i g.0 hosts g.1 (inl (below g.0 g.1)) e);
+    each = λ i hosts e. (let g = grouped-at i hosts e in h.each i g.0 hosts g.1 (inl (below i g.0 g.1)) e);
   }
     where
       grouped-at : (i : ℕ) (hosts : List ℕ) → slice_get sources i ≡ Some hosts → (g : ℕ) × (slice_get group_of i ≡ Some g)
       grouped-at i hosts e = below-get group_of i (let lt = get-below sources i hosts e in let size = h.size in omega (arith, lt, size))
 
-      below : {i : ℕ} (g : ℕ) → slice_get group_of i ≡ Some g → g < group
-      below {i} g at =
+      below : (i g : ℕ) → slice_get group_of i ≡ Some g → g < group
+      below i g at =
           let leader = grouped.each i g at in
           let lt = get-below leaders g leader.0 leader.1 in omega (arith, lt, past)

@@ -1,5 +1,5 @@
 -- The places where walks of a product start are the hosts from which walks on the path of its statement lead to its end.
-use Rattle.std.proofs.Common.{◌≡◌, ◌≢◌, ◌<◌, ◌==◌, ◌⊎◌, ◌↔◌, inl, inr, ℕ, suc, zero, Bool, true, false, List, [], ◌∷◌, ◌++◌, length, map, get_or, slice_get, Contains, Some, refl, sym, ◌∙◌, ap, subst, arith}
+use Rattle.std.proofs.Common.{◌≡◌, ◌≢◌, ◌<◌, ◌==◌, ◌⊎◌, ◌↔◌, inl, inr, ℕ, suc, zero, Bool, true, false, List, [], ◌∷◌, ◌++◌, length, map, slice_get, Contains, Some, refl, sym, ◌∙◌, ap, subst, arith}
 use Rattle.std.specs.Prelude.{slice_set, replicate}
 use Rattle.std.specs.List.{AllByRecursion, slice_index_or}
 use Rattle.merlin_model.specs.declared.policy.Symbol.{Symbol}
@@ -17,8 +17,7 @@ use Rattle.product_graph.specs.declared.span.Span2.TheVariants.{All}
 use Rattle.product_graph.specs.Products.{vertex_of, StandsIn, IsTrimmed, IsProduct}
 use Rattle.product_graph.proofs.Lists.{some-same, none-some, false-true, all-at, all-contained, get-below, map-length, contains-left, contains-last, contains-snoc, contains-none}
 use Rattle.product_graph.proofs.Standing.{below-get, get-in, in-get, get-front, stands-at}
-use Rattle.openflow_rules.specs.Gathered.{AreVerticesWithin}
-use Rattle.openflow_rules.specs.Sources.{StartsWalk, AreMarkedAmong, loc_at, HasStartsWithin}
+use Rattle.openflow_rules.specs.Sources.{StartsWalk, AreMarkedAmong, listed_loc, HasStartsWithin}
 use Rattle.openflow_rules.proofs.Inner.{within-product}
 
 -- Marks.
@@ -75,7 +74,7 @@ marks-next n locs loc old new lt h is = record { size = ap length is ∙ length-
 
 -- Products.
 
-vertex-loc : (vs : List ListedVertex) (k : ℕ) (v : Vertex) → slice_get (map vertex_of vs) k ≡ Some v → loc_at vs k ≡ loc_of v
+vertex-loc : (vs : List ListedVertex) (k : ℕ) (v : Vertex) → slice_get (map vertex_of vs) k ≡ Some v → listed_loc vs k ≡ loc_of v
 vertex-loc [] k v e = absurd (none-some e)
 vertex-loc (x ∷ vs) zero v e = ap (λ y. y.symbol.loc) (some-same e)
 vertex-loc (x ∷ vs) (suc k) v e = vertex-loc vs k v e
@@ -104,7 +103,7 @@ module _ (net : Network) (a : SymbolAutomaton) (d : ℕ) (dest : IsHost net d) (
       }
 
   pub starts-within : IsProduct net a (All d) product → HasStartsWithin (length net.locations) product
-  starts-within (inl cut) = subst (AllByRecursion (λ k. (k < length product.vertices) × (loc_at product.vertices k < length net.locations))) (sym cut.starts) tt
+  starts-within (inl cut) = subst (AllByRecursion (λ k. (k < length product.vertices) × (listed_loc product.vertices k < length net.locations))) (sym cut.starts) tt
   starts-within (inr is) = all-contained _ product.starts within
     where
       below : (k : ℕ) → Contains product.starts k → k < length product.vertices
@@ -113,7 +112,7 @@ module _ (net : Network) (a : SymbolAutomaton) (d : ℕ) (dest : IsHost net d) (
           let lt = get-below (map vertex_of product.vertices) k (start_of a s.source) s.here in
           let long = map-length vertex_of product.vertices in omega (arith, lt, long)
 
-      within : (k : ℕ) → Contains product.starts k → (k < length product.vertices) × (loc_at product.vertices k < length net.locations)
+      within : (k : ℕ) → Contains product.starts k → (k < length product.vertices) × (listed_loc product.vertices k < length net.locations)
       within k c = (below k c, all-at (λ v. v.symbol.loc < length net.locations) product.vertices k (record { symbol = at 0; state = 0 }) (below k c) (within-product net a (All d) dest product (inr is)))
 
   module _ (policy : Policy) (i : ℕ) (takes : (w : List Symbol) → AllByRecursion (IsSymbol net) w → (a.accepts (ending_state a 0 w) ≡ true) ↔ IsOnPath policy i w) where
@@ -134,11 +133,11 @@ module _ (net : Network) (a : SymbolAutomaton) (d : ℕ) (dest : IsHost net d) (
             (short.way, short.leads)
 
     abbrev places : List ℕ
-    places = map (loc_at product.vertices) product.starts
+    places = map (listed_loc product.vertices) product.starts
 
     to-walk : IsTrimmed net a (All d) product → (s : ℕ) → Contains places s → StartsWalk net policy i d s
     to-walk is s c =
-        let m = in_map (loc_at product.vertices) product.starts s (in_from places s c) in
+        let m = in_map (listed_loc product.vertices) product.starts s (in_from places s c) in
         let start = start-at is m.0 (in_to product.starts m.0 m.1) in
         subst (StartsWalk net policy i d) (sym (m.2 ∙ vertex-loc product.vertices m.0 (start_of a start.source) start.here)) (way-walk start.source start.host start.apart start.after start.leads)
 
@@ -150,12 +149,12 @@ module _ (net : Network) (a : SymbolAutomaton) (d : ℕ) (dest : IsHost net d) (
         let place = in-get is.first (start_of a s) (in_from is.first (start_of a s) listed) in
         let here = stands-at net a (All d) product is place.0 (start_of a s) (get-front is.first is.inner place.0 (start_of a s) place.1) in
         let there = (is.starts place.0).1 (get-below is.first place.0 (start_of a s) place.1) in
-        subst (Contains places) (vertex-loc product.vertices place.0 (start_of a s) here) (in_to places (loc_at product.vertices place.0) (map_in (loc_at product.vertices) product.starts place.0 (in_from product.starts place.0 there)))
+        subst (Contains places) (vertex-loc product.vertices place.0 (start_of a s) here) (in_to places (listed_loc product.vertices place.0) (map_in (listed_loc product.vertices) product.starts place.0 (in_from product.starts place.0 there)))
 
     -- walks start at the places of the product's starts
     pub walks-start : IsProduct net a (All d) product → (s : ℕ) → Contains places s ↔ StartsWalk net policy i d s
     walks-start (inl cut) s = (
-      λ c. absurd (contains-none s (subst (λ l. Contains (map (loc_at product.vertices) l) s) cut.starts c)),
+      λ c. absurd (contains-none s (subst (λ l. Contains (map (listed_loc product.vertices) l) s) cut.starts c)),
       λ h. let way = walk-way s h in absurd (cut.none s way.0 (h.walk.start, h.apart) way.1),
     )
     walks-start (inr is) s = (to-walk is s, from-walk is s)

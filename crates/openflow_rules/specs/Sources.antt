@@ -35,12 +35,12 @@ pub record AreMarkedAmong (locations : ℕ) (locs : List ℕ) (marks : List Bool
   pub each : (loc : ℕ) → (slice_index_or marks loc false ≡ true) ↔ Contains locs loc
 
 -- the location of a vertex
-abbrev pub loc_at : List ListedVertex → ℕ → ℕ
-loc_at vertices k = (slice_index_or vertices k (record { symbol = at 0; state = 0 })).symbol.loc
+abbrev pub listed_loc : List ListedVertex → ℕ → ℕ
+listed_loc vertices k = (slice_index_or vertices k (record { symbol = at 0; state = 0 })).symbol.loc
 
 -- walks start at vertices of the product, and these are at so many locations
 abbrev pub HasStartsWithin : ℕ → Product → Type 0
-HasStartsWithin locations product = AllByRecursion (λ k. (k < length product.vertices) × (loc_at product.vertices k < locations)) product.starts
+HasStartsWithin locations product = AllByRecursion (λ k. (k < length product.vertices) × (listed_loc product.vertices k < locations)) product.starts
 
 -- the row of statement i marks the hosts from which such walks lead to its destination
 pub record IsWalkRow (net : Network) (policy : Policy) (i : ℕ) (row : WalkRow) : Type 0 where

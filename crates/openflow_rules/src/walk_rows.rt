@@ -7,7 +7,7 @@ ghost use Rattle.topology.specs.Symbols.{network_symbols};
 ghost use Rattle.rules_model.specs.Tables.{all_hosts};
 ghost use Rattle.product_graph.specs.Followers.{AreFollowersOf};
 ghost use Rattle.policy_check.specs.Checked.{HasAutomata};
-ghost use Rattle.openflow_rules.specs.Sources.{loc_at as vertex_loc, AreMarkedAmong, HasStartsWithin};
+ghost use Rattle.openflow_rules.specs.Sources.{listed_loc, AreMarkedAmong, HasStartsWithin};
 ghost use Rattle.openflow_rules.specs.Sources.{IsWalkRow, AreWalkRows};
 
 use crate::gathering::Site;
@@ -26,7 +26,7 @@ pub struct WalkRow {
 /// The location of a vertex.
 fn loc_at(vertices: &[Vertex], place: usize) -> usize
     requires { place < length vertices.now }
-    ensures { result ≡ vertex_loc vertices.now place }
+    ensures { result ≡ listed_loc vertices.now place }
 {
     vertices[place].symbol.loc
 }
@@ -39,7 +39,7 @@ fn start_marks(
 ) -> Result<Items<bool>, OutOfMemory>
     requires { HasStartsWithin locations product.now }
     ensures { IfOk result (AreMarkedAmong locations
-        (map (vertex_loc product.now.vertices) product.now.starts)) }
+        (map (listed_loc product.now.vertices) product.now.starts)) }
 {
     let vertices = product.vertices();
     let starts = product.starts();

@@ -1,10 +1,8 @@
-use Rattle.std.proofs.Common.{◌≡◌, ◌<◌, ◌≢◌, ◌∙◌, ℕ, List, Vec, length, map, get_or, slice_get, Some, sym, ap, subst, arith}
+use Rattle.std.proofs.Common.{◌≡◌, ◌<◌, ◌∙◌, ℕ, List, Vec, length, get_or, slice_get, Some, sym, ap, subst}
 use Rattle.std.specs.Prelude.{unwrap_or}
 use Rattle.std.specs.declared.alloc.Global.{Global}
 use Rattle.merlin_model.specs.declared.policy.Pred.{Pred}
 use Rattle.merlin_model.specs.Networks.{Pairwise}
-use Rattle.merlin_model.specs.Predicates.{IsPred}
-use Rattle.merlin_model.specs.Policies.{paths_of}
 use Rattle.merlin_model.specs.Rates.{AreLiveSources}
 use Rattle.product_graph.proofs.Lists.{get-at}
 use Rattle.policy_check.specs.Checked.{CheckedPolicy}

@@ -1,7 +1,7 @@
-use Rattle.std.proofs.Common.{ℕ, length, map, sym, subst}
+use Rattle.std.proofs.Common.{ℕ, map, sym, subst}
 use Rattle.topology.specs.Symbols.{network_symbols}
 use Rattle.product_graph.specs.Products.{automaton_of}
-use Rattle.openflow_rules.specs.Sources.{loc_at, AreMarkedAmong, HasStartsWithin}
+use Rattle.openflow_rules.specs.Sources.{listed_loc, AreMarkedAmong, HasStartsWithin}
 use Rattle.openflow_rules.proofs.WalkStarts.{starts-within}
 use Rattle.openflow_rules.proofs.SharedWalks.{width-of, row-is}
 use Rattle.openflow_rules.proofs.walk_rows.row_to.Goals as goal
@@ -18,4 +18,4 @@ start_marks-requires c =
 pub returns-clause-row : goal.returns-clause-row
 returns-clause-row c =
     row-is c.args.site.now.net.now c.args.site.now.checked.now c.requires.automata c.args.statement c.automaton-automaton.result.now c.requires.statement c.automaton-automaton.ensures c.args.dest c.requires.dest c.in_ok-product.product c.in_ok-product.ensures c.in_ok-marks.marks
-    (subst (λ (n : ℕ). AreMarkedAmong n (map (loc_at c.in_ok-product.product.vertices) c.in_ok-product.product.starts) c.in_ok-marks.marks) c.locations.ensures.count c.in_ok-marks.ensures)
+    (subst (λ (n : ℕ). AreMarkedAmong n (map (listed_loc c.in_ok-product.product.vertices) c.in_ok-product.product.starts) c.in_ok-marks.marks) c.locations.ensures.count c.in_ok-marks.ensures)

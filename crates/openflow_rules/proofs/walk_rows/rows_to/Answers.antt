@@ -1,7 +1,3 @@
-use Rattle.std.proofs.Common.{ℕ, List, length, get_or, subst}
-use Rattle.merlin_model.specs.Networks.{IsHost}
-use Rattle.rules_model.specs.Tables.{all_hosts}
-use Rattle.product_graph.proofs.Lists.{all-at}
 use Rattle.openflow_rules.proofs.Sending.{all-hosts}
 use Rattle.openflow_rules.proofs.walk_rows.rows_to.Goals as goal
 

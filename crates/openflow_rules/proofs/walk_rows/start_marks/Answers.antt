@@ -1,8 +1,8 @@
-use Rattle.std.proofs.Common.{◌≡◌, ◌<◌, ◌+◌, ◌∷◌, [], ◌++◌, ℕ, List, Bool, true, length, map, take, get_or, sym, ◌∙◌, ap, subst}
+use Rattle.std.proofs.Common.{◌≡◌, ◌<◌, ℕ, List, true, length, map, take, get_or, sym, ◌∙◌, ap, subst}
 use Rattle.std.specs.Prelude.{slice_set}
 use Rattle.product_graph.specs.declared.span.Vertex.{Vertex as ListedVertex}
 use Rattle.product_graph.proofs.Lists.{all-at}
-use Rattle.openflow_rules.specs.Sources.{loc_at, AreMarkedAmong}
+use Rattle.openflow_rules.specs.Sources.{listed_loc, AreMarkedAmong}
 use Rattle.openflow_rules.proofs.Steps.{mapped-next}
 use Rattle.openflow_rules.proofs.WalkStarts.{marks-next}
 use Rattle.openflow_rules.proofs.walk_rows.start_marks.Goals as goal
@@ -14,10 +14,10 @@ loop-start-preserved c =
     let i : ℕ = c.loop-start.start-index in
     let lt : i < length starts = c.loop-start-test.true in
     let place : ℕ = get_or starts i 0 in
-    let within = all-at (λ k. (k < length c.args.product.now.vertices) × (loc_at c.args.product.now.vertices k < c.args.locations)) c.args.product.now.starts i 0
-        (subst (λ (l : List ℕ). i < length l) c.starts-starts.ensures lt) c.requires in
-    let same : loc_at c.args.product.now.vertices (get_or c.args.product.now.starts i 0) ≡ loc_at vertices place =
-    sym (ap (λ (vs : List ListedVertex). loc_at vs (get_or starts i 0)) c.vertices-vertices.ensures ∙ ap (λ (l : List ℕ). loc_at c.args.product.now.vertices (get_or l i 0)) c.starts-starts.ensures) in
-    subst (λ (l : List ℕ). AreMarkedAmong c.args.locations l c.set.new.self) (sym (mapped-next (loc_at vertices) starts i 0 lt))
-    (marks-next c.args.locations (map (loc_at vertices) (take i starts)) (loc_at vertices place) c.loop-start.marks c.set.new.self (subst (λ n. n < c.args.locations) same within.1) c.loop-start.invariant
+    let within = all-at (λ k. (k < length c.args.product.now.vertices) × (listed_loc c.args.product.now.vertices k < c.args.locations)) c.args.product.now.starts i 0
+    (subst (λ (l : List ℕ). i < length l) c.starts-starts.ensures lt) c.requires in
+    let same : listed_loc c.args.product.now.vertices (get_or c.args.product.now.starts i 0) ≡ listed_loc vertices place =
+    sym (ap (λ (vs : List ListedVertex). listed_loc vs (get_or starts i 0)) c.vertices-vertices.ensures ∙ ap (λ (l : List ℕ). listed_loc c.args.product.now.vertices (get_or l i 0)) c.starts-starts.ensures) in
+    subst (λ (l : List ℕ). AreMarkedAmong c.args.locations l c.set.new.self) (sym (mapped-next (listed_loc vertices) starts i 0 lt))
+    (marks-next c.args.locations (map (listed_loc vertices) (take i starts)) (listed_loc vertices place) c.loop-start.marks c.set.new.self (subst (λ n. n < c.args.locations) same within.1) c.loop-start.invariant
     (c.set.ensures ∙ ap (λ (n : ℕ). slice_set c.loop-start.marks n true) c.loc_at.ensures))

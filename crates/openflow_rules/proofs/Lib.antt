@@ -14,3 +14,7 @@ mod Steps
 mod Rooms
 mod WalkSteps
 mod Owning
+mod WalkStarts
+mod SharedWalks
+mod Sending
+mod SourceSteps

@@ -9,9 +9,12 @@ mod groups;
 mod owned;
 mod preparing;
 mod rule_plan;
+mod senders;
 mod sinks;
+mod sources;
 mod spans;
 mod tags;
+mod walk_rows;
 mod walks;
 
 pub use fault::{MAX_ENTRIES, MAX_TAGS, RuleFault};

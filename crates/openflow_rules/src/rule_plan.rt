@@ -1,13 +1,15 @@
 //! A plan of rules: what is made once for a checked policy, before walks are chosen.
 
-ghost use Rattle.std.specs.Prelude.{◌≡◌, IfOk, IfErr};
+ghost use Rattle.std.specs.Prelude.{◌≡◌, map, IfOk, IfErr};
 ghost use Rattle.topology.specs.Symbols.{network_symbols};
 ghost use Rattle.merlin_model.specs.Assignments.{AreAllEnds};
 ghost use Rattle.policy_check.specs.Checked.{HasAutomata};
+ghost use Rattle.configuration_model.specs.Tables.{AreSources};
 ghost use Rattle.openflow_rules.specs.Planning.{IsWithinLimits, PassesLimit};
 
 use crate::fault::RuleFault;
 use crate::preparing::{PlanParts, prepare};
+use crate::sources::live_sources;
 use merlin_model::policy::Ends;
 use policy_check::Checked;
 use std::alloc::Global;
@@ -21,6 +23,7 @@ pub struct RulePlan<'a> {
     checked: &'a Checked,
     ends: &'a [Ends],
     parts: PlanParts,
+    sources: Vec<Vec<usize>>,
 }
 
 impl<'a> Model for RulePlan<'a> {
@@ -33,11 +36,25 @@ impl<'a> Model for RulePlan<'a> {
 
     ghost coded = { Prim.hlevel (codes, path.the_row.coded, pred.the_row.coded) };
 
+    ghost use Rattle.std.specs.Prelude.{map};
+    ghost use Rattle.configuration_model.specs.Tables.{AreSources};
     ghost use Rattle.openflow_rules.specs.PlanParts.{ArePlanParts};
 
     ghost view = { λ p. record { net = p.net.now; checked = p.checked.now; ends = p.ends.now } };
 
-    ghost invariant = { λ p. ArePlanParts p.net.now p.checked.now p.ends.now p.parts };
+    ghost invariant = { λ p. ArePlanParts p.net.now p.checked.now p.ends.now p.parts
+        × AreSources p.net.now p.checked.now.policy
+        (map (λ hosts. hosts.items) p.sources.items) };
+}
+
+impl<'a> RulePlan<'a> {
+    /// The live sources of each statement, the default's last, in the order of their locations.
+    pub fn sources(&self) -> &[Vec<usize>]
+        ensures { AreSources self.now.net self.now.checked.policy
+            (map (λ hosts. hosts.items) result.now) }
+    {
+        self.sources.as_slice()
+    }
 }
 
 /// The plan of a checked policy with these ends, if its tags, cells and entries are within their
@@ -62,10 +79,12 @@ pub fn plan<'a>(
     ensures err { IfErr result (PassesLimit net.now checked.now ends.now) }
 {
     let parts = prepare(alloc, checked, ends, net)?;
+    let sources = live_sources(alloc, net, checked, &parts.groups)?;
     Ok(RulePlan {
         net,
         checked,
         ends,
         parts,
+        sources,
     })
 }

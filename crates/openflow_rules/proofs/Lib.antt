@@ -14,3 +14,7 @@ mod Steps
 mod Rooms
 mod WalkSteps
 mod Owning
+mod ChosenGroups
+mod ChosenBranches
+mod ChosenTables
+mod ChosenSteps

@@ -6,3 +6,4 @@ pub mod PlanParts
 pub mod Planning
 pub mod SinkBranches
 pub mod WalkBranches
+pub mod WalkGroups

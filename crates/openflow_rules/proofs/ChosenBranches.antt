@@ -200,12 +200,12 @@ module _ (net : Network) (groups : List Group) (g : ℕ) (c : Group) (there : sl
       vs : List Vertex
       vs = start_of c.automaton e.src ∷ written_after c.automaton e w
 
-      vertices : map vertex_in is.branch.steps ≡ start_of c.automaton e.src ∷ written_after c.automaton e w
+      vertices : map vertex_in is.branch.steps ≡ vs
       vertices = is.is.vertices ∙ walk-vertices net c.automaton e w walk
 
       one : IsBranch net groups g is.branch
       one = record {
-        follow = λ i v at_i. let p = walk-follow is.branch.steps _ vertices is.is.follows i v at_i in (p.0, p.1, to-follows is.branch.dest v p.0 (is.is.dest_is, p.2));
-        all = λ v us f. subst (λ l. Contains l v) (sym vertices) (in_to _ v (after-in _ v us (from-follows is.branch.dest v us f).1));
+        follow = λ i v at_i. let p = walk-follow is.branch.steps vs vertices is.is.follows i v at_i in (p.0, p.1, to-follows is.branch.dest v p.0 (is.is.dest_is, p.2));
+        all = λ v us f. subst (λ l. Contains l v) (sym vertices) (in_to vs v (after-in vs v us (from-follows is.branch.dest v us f).1));
         differ = subst (Pairwise (λ u v. u ≢ v)) (sym vertices) simple;
       }

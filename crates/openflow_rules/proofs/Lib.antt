@@ -18,3 +18,4 @@ mod ChosenGroups
 mod ChosenBranches
 mod ChosenTables
 mod ChosenSteps
+mod ChosenWalks

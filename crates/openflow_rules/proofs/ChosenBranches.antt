@@ -1,14 +1,13 @@
 -- The branches of a group, with its walk if it is guaranteed.
-use Rattle.std.proofs.Common.{◌≡◌, ◌≢◌, ◌≤◌, ◌<◌, ◌⊎◌, inl, inr, ℕ, zero, suc, nat_lt, Bool, true, false, cond, List, [], ◌∷◌, length, map, slice_get, Contains, Option, None, Some, refl, sym, ◌∙◌, ap, subst, arith}
-use Rattle.std.specs.Prelude.{option_map}
+use Rattle.std.proofs.Common.{◌≡◌, ◌≢◌, ◌≤◌, ◌<◌, inl, inr, ℕ, zero, suc, nat_lt, Bool, true, false, cond, List, [], ◌∷◌, length, map, slice_get, Contains, Option, None, Some, refl, sym, ◌∙◌, ap, subst, arith}
 use Rattle.std.specs.List.{AllByRecursion, AllZip, range_with_len}
 use Rattle.merlin_model.specs.declared.policy.Ends.{Ends}
 use Rattle.merlin_model.specs.declared.policy.Symbol.{Symbol}
 use Rattle.merlin_model.specs.Networks.{Network, IsHost, Pairwise, kind_of}
-use Rattle.merlin_model.specs.Words.{at, IsWalk, WalksFrom}
+use Rattle.merlin_model.specs.Words.{IsWalk, WalksFrom}
 use Rattle.merlin_model.proofs.Members.{In, in_from, in_to}
 use Rattle.merlin_model.proofs.WordLaws.{walk-goes_on}
-use Rattle.rules_model.specs.Products.{SymbolAutomaton, Vertex, start_of, WrittenWalk, Group, IsFollowedBy, TreeFollows, FollowsIn, FollowsAt, Follows, AllowsWalkIn, AllowsWalkAt, AllowsWalk, start_at, start_in, queue_at, queue_in}
+use Rattle.rules_model.specs.Products.{SymbolAutomaton, Vertex, start_of, WrittenWalk, Group, IsFollowedBy, TreeFollows, FollowsIn, FollowsAt, Follows, AllowsWalkIn, AllowsWalkAt, AllowsWalk, start_at, start_in, queue_at}
 use Rattle.rules_model.specs.Tables.{all_hosts, is_host_kind}
 use Rattle.rules_model.proofs.Trees.{after-in}
 use Rattle.rules_model.proofs.Pieces.{range-up, filter-up}
@@ -21,7 +20,7 @@ use Rattle.rule_tables.specs.declared.branches.GroupBranches.{GroupBranches}
 use Rattle.rule_tables.specs.Branches.{vertex_in, vertex_at, next_at, LeadsOn, IsBranch, AreGroupBranches}
 use Rattle.openflow_rules.specs.GroupSpans.{span_to}
 use Rattle.openflow_rules.specs.Gathered.{IsBranchTo, IsBranchFor}
-use Rattle.openflow_rules.specs.WalkBranches.{place_after, IsWalkBranch}
+use Rattle.openflow_rules.specs.WalkBranches.{place_after}
 use Rattle.openflow_rules.specs.WalkGroups.{IsWalkGroup}
 use Rattle.openflow_rules.proofs.Sinking.{get-mapped}
 

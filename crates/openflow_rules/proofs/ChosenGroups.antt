@@ -1,5 +1,5 @@
 -- The groups of a plan once walks are chosen. They have the products that they had before.
-use Rattle.std.proofs.Common.{◌≡◌, ◌≤◌, ◌<◌, ◌+◌, ◌==◌, ◌↔◌, inl, inr, ℕ, zero, suc, Bool, true, false, cond, List, [], ◌∷◌, length, map, slice_get, Contains, Option, None, Some, refl, sym, ◌∙◌, ap, subst, arith}
+use Rattle.std.proofs.Common.{◌≡◌, ◌≤◌, ◌<◌, ◌+◌, ◌==◌, ◌↔◌, inl, inr, ℕ, zero, suc, false, cond, List, [], ◌∷◌, length, map, slice_get, Contains, Option, None, Some, refl, sym, ◌∙◌, ap, subst, arith}
 use Rattle.std.specs.Prelude.{option_map, option_to_list, unwrap_or}
 use Rattle.std.specs.Option.{option_map_or}
 use Rattle.std.specs.List.{AllByRecursion, AllZip, position_from}
@@ -8,12 +8,11 @@ use Rattle.merlin_model.specs.declared.policy.Path.{Path}
 use Rattle.merlin_model.specs.declared.policy.Symbol.{Symbol}
 use Rattle.merlin_model.specs.Networks.{Network, Pairwise}
 use Rattle.merlin_model.specs.Words.{at, IsWalk}
-use Rattle.merlin_model.specs.Policies.{Policy, Statement, paths_of, IsOnPath}
+use Rattle.merlin_model.specs.Policies.{Statement, paths_of, IsOnPath}
 use Rattle.merlin_model.specs.Rates.{IsGuaranteed, greatest_of, min_shares}
 use Rattle.merlin_model.specs.Assignments.{AreTheEnds, AreAllEnds, IsAssignment}
 use Rattle.merlin_model.proofs.Members.{In, in_from, in_to, in_map, all_in}
 use Rattle.merlin_model.proofs.Ascending.{increasing-pairwise}
-use Rattle.path_automaton.specs.Automata.{AutomatonTables}
 use Rattle.path_automaton.proofs.Building.{get-map}
 use Rattle.topology.specs.Symbols.{network_symbols}
 use Rattle.rules_model.specs.Products.{SymbolAutomaton, RecognisesPath, Vertex, WrittenWalk, IsWrittenWalk, IsOnWayBetween, Group, AreWrittenWalks, IsVertexIn, IsVertexAt}

@@ -1,5 +1,5 @@
 -- The groups of a plan with their branches, one leader after the other.
-use Rattle.std.proofs.Common.{◌≡◌, ◌≤◌, ◌<◌, ◌+◌, ◌⊎◌, inl, inr, ℕ, zero, suc, List, [], ◌∷◌, ◌++◌, length, map, drop, take, get_or, slice_get, Option, None, Some, refl, sym, ◌∙◌, ap, subst, arith}
+use Rattle.std.proofs.Common.{◌≡◌, ◌≤◌, ◌<◌, ◌+◌, ◌⊎◌, inl, inr, ℕ, suc, List, [], ◌∷◌, ◌++◌, length, drop, take, get_or, slice_get, Option, None, Some, refl, sym, ◌∙◌, ap, subst, arith}
 use Rattle.std.specs.Prelude.{MatchOption}
 use Rattle.std.specs.List.{AllZip, enumerate_from, flat_map}
 use Rattle.merlin_model.specs.declared.policy.Ends.{Ends}
@@ -7,7 +7,7 @@ use Rattle.merlin_model.specs.declared.policy.Symbol.{Symbol}
 use Rattle.merlin_model.specs.Networks.{Network}
 use Rattle.rules_model.specs.Products.{Group}
 use Rattle.rules_model.specs.Tables.{all_hosts}
-use Rattle.product_graph.proofs.Lists.{some-same, none-some, get-below, get-snoc, length-more, map-length, take-more}
+use Rattle.product_graph.proofs.Lists.{none-some, get-below, get-snoc, length-more, map-length, take-more}
 use Rattle.policy_check.specs.Checked.{CheckedPolicy}
 use Rattle.rule_tables.specs.declared.branches.Branch.{Branch}
 use Rattle.rule_tables.specs.declared.branches.GroupBranches.{GroupBranches}

@@ -1,7 +1,6 @@
 -- The branches of all groups are those that tables are made from.
-use Rattle.std.proofs.Common.{◌≡◌, ◌≢◌, ◌<◌, ◌+◌, ◌==◌, ◌++◌, inl, inr, ℕ, suc, List, [], ◌∷◌, length, map, drop, take, slice_get, Contains, Option, None, Some, refl, sym, ◌∙◌, ap, subst, arith}
-use Rattle.std.specs.Prelude.{option_map}
-use Rattle.std.specs.List.{AllByRecursion, AllZip, enumerate_from, flat_map}
+use Rattle.std.proofs.Common.{◌≡◌, ◌≢◌, ◌==◌, ℕ, suc, List, [], ◌∷◌, length, map, slice_get, Option, None, Some, refl, sym, ◌∙◌, ap, subst, arith}
+use Rattle.std.specs.List.{AllZip}
 use Rattle.merlin_model.specs.declared.policy.Ends.{Ends}
 use Rattle.merlin_model.specs.declared.policy.Symbol.{Symbol}
 use Rattle.merlin_model.specs.declared.config.Rule.{Rule}
@@ -9,22 +8,21 @@ use Rattle.merlin_model.specs.declared.config.Process.{Process}
 use Rattle.merlin_model.specs.Networks.{Network, IsHost}
 use Rattle.merlin_model.specs.Rates.{IsGuaranteed}
 use Rattle.merlin_model.specs.Words.{IsWalk}
-use Rattle.merlin_model.specs.Policies.{paths_of, IsOnPath}
+use Rattle.merlin_model.specs.Policies.{IsOnPath}
 use Rattle.merlin_model.specs.Assignments.{AreAllEnds, IsAssignment}
-use Rattle.merlin_model.proofs.Members.{In, in_from, in_to, in_map}
+use Rattle.merlin_model.proofs.Members.{in_from, in_map}
 use Rattle.topology.specs.Symbols.{network_symbols}
-use Rattle.rules_model.specs.Products.{SymbolAutomaton, Vertex, Group, Follows, AllowsWalk, AllowsWalkAt, AreWrittenWalks, start_in}
+use Rattle.rules_model.specs.Products.{Vertex, Group, Follows, AllowsWalk, AllowsWalkAt, AreWrittenWalks, start_in}
 use Rattle.rules_model.specs.Tables.{all_hosts, all_owned}
 use Rattle.product_graph.specs.Products.{automaton_of}
 use Rattle.product_graph.proofs.Lists.{some-same, none-some, get-below, get-contains}
 use Rattle.path_automaton.proofs.Building.{below-get}
-use Rattle.policy_check.specs.Checked.{CheckedPolicy, HasAutomata, automaton_of_statement}
+use Rattle.policy_check.specs.Checked.{CheckedPolicy, HasAutomata}
 use Rattle.configuration_model.specs.Groups.{AreGrouped, written_walk_of, AreGroups, IsGroupOf, HasDifferentVertices, HaveDifferentVertices}
 use Rattle.configuration_model.specs.Pairs.{pair_cells}
 use Rattle.configuration_model.specs.Tables.{grouped_cells, AreTables}
 use Rattle.configuration_model.proofs.Lists.{in-at, find-in, zip-left, zip-right}
 use Rattle.rule_tables.specs.declared.branches.TagKey.{TagKey as ListedKey}
-use Rattle.rule_tables.specs.declared.branches.Branch.{Branch}
 use Rattle.rule_tables.specs.declared.branches.GroupBranches.{GroupBranches}
 use Rattle.rule_tables.specs.declared.branches.OwnedCell.{OwnedCell}
 use Rattle.rule_tables.specs.Branches.{key_of, owned_of, AreGroupBranches, AreBranches, IsPrepared, AreTablesOf}

@@ -1,5 +1,5 @@
 -- What is known of a walk that was chosen.
-use Rattle.std.proofs.Common.{◌≡◌, ◌<◌, ◌∙◌, ℕ, suc, List, [], ◌∷◌, length, map, slice_get, Contains, Some, refl, sym, ap, subst}
+use Rattle.std.proofs.Common.{◌≡◌, ◌<◌, ◌∙◌, ℕ, suc, List, Vec, Global, map, [], ◌∷◌, length, slice_get, Contains, Some, refl, sym, ap, subst}
 use Rattle.std.specs.List.{AllByRecursion, AllZip}
 use Rattle.merlin_model.specs.declared.policy.Ends.{Ends}
 use Rattle.merlin_model.specs.declared.policy.Symbol.{Symbol}
@@ -14,6 +14,10 @@ use Rattle.product_graph.proofs.Lists.{some-same}
 use Rattle.product_graph.proofs.Ordered.{ordered}
 use Rattle.policy_check.specs.Checked.{CheckedPolicy, HasAutomata, automaton_of_statement}
 use Rattle.configuration_model.proofs.Lists.{zip-left}
+
+-- the words of walks
+abbrev pub words : List (Vec Symbol Global) → List (List Symbol)
+words walks = map (λ w. w.items) walks
 
 -- each automaton is over all symbols
 pub width-of : (symbols : List Symbol) (checked : CheckedPolicy) → HasAutomata symbols checked → (j : ℕ) (t : AutomatonTables) → j < length (paths_of checked.policy) → automaton_of_statement checked j ≡ Some t → t.width ≡ length symbols

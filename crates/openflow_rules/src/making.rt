@@ -42,6 +42,17 @@ pub fn tables_with(
     let leaders = parts.groups.leaders.as_slice();
     let branches = parts.branches.as_slice();
     let groups = all_groups(alloc, chosen, hosts.as_slice(), leaders, branches)?;
-    let owned = owned_cells(alloc, chosen.net, chosen.checked, parts.groups.group_of.as_slice())?;
-    tables_of(alloc, chosen.net, parts.tags.as_slice(), &groups, owned.as_slice())
+    let owned = owned_cells(
+        alloc,
+        chosen.net,
+        chosen.checked,
+        parts.groups.group_of.as_slice(),
+    )?;
+    tables_of(
+        alloc,
+        chosen.net,
+        parts.tags.as_slice(),
+        &groups,
+        owned.as_slice(),
+    )
 }

@@ -1,18 +1,15 @@
-use Rattle.std.proofs.Common.{◌≡◌, ◌≤◌, ◌+◌, ℕ, List, Option, Vec, Global, length, map, get_or, refl, subst, arith}
+use Rattle.std.proofs.Common.{◌≡◌, ℕ, List, Option, length, get_or, refl, subst}
 use Rattle.std.specs.Prelude.{MatchOption}
 use Rattle.merlin_model.specs.declared.policy.Ends.{Ends}
-use Rattle.merlin_model.specs.declared.policy.Symbol.{Symbol}
 use Rattle.merlin_model.specs.Networks.{Network}
 use Rattle.rules_model.specs.Tables.{all_hosts}
 use Rattle.policy_check.specs.Checked.{CheckedPolicy}
 use Rattle.openflow_rules.specs.GroupSpans.{ends_for, spans_by}
 use Rattle.openflow_rules.specs.WalkGroups.{IsPlaceFor}
-use Rattle.openflow_rules.proofs.ChosenSteps.{products-long, enough, made-none, made-next, made-all}
+use Rattle.openflow_rules.proofs.ChosenSteps.{products-long, enough, made-next, made-all}
 use Rattle.openflow_rules.proofs.Steps.{taken-all}
+use Rattle.openflow_rules.proofs.ChosenWalks.{words}
 use Rattle.openflow_rules.proofs.chosen.all_groups.Goals as goal
-
-abbrev words : List (Vec Symbol Global) → List (List Symbol)
-words walks = map (λ w. w.items) walks
 
 -- so many products there are over all hosts
 as-long : (net : Network) (hosts : List ℕ) (ends : List Ends) (g j : ℕ) (place : Option ℕ) (count : ℕ) → hosts ≡ all_hosts net → IsPlaceFor ends j place → MatchOption place (count ≡ length hosts) (λ k. count ≡ 1) →

@@ -1,4 +1,4 @@
-use Rattle.std.proofs.Common.{◌≡◌, ◌<◌, ◌+◌, ◌++◌, ◌∷◌, [], ℕ, suc, List, Vec, Global, length, map, get_or, Some, slice_get, sym, ◌∙◌, ap, subst, arith}
+use Rattle.std.proofs.Common.{◌≡◌, ◌<◌, ◌+◌, ◌++◌, ◌∷◌, [], ℕ, suc, List, Vec, Global, length, get_or, Some, slice_get, sym, ◌∙◌, ap, subst, arith}
 use Rattle.std.specs.Prelude.{Contains}
 use Rattle.std.specs.List.{AllByRecursion}
 use Rattle.merlin_model.specs.declared.policy.Ends.{Ends}
@@ -9,11 +9,8 @@ use Rattle.product_graph.specs.Products.{automaton_of}
 use Rattle.product_graph.proofs.Lists.{get-at, map-length}
 use Rattle.rule_tables.specs.declared.branches.Branch.{Branch}
 use Rattle.openflow_rules.specs.WalkBranches.{IsWalkBranch}
-use Rattle.openflow_rules.proofs.ChosenWalks.{width-of, as-many, walk-symbols}
+use Rattle.openflow_rules.proofs.ChosenWalks.{words, width-of, as-many, walk-symbols}
 use Rattle.openflow_rules.proofs.chosen.walk_group.Goals as goal
-
-abbrev words : List (Vec Symbol Global) → List (List Symbol)
-words walks = map (λ w. w.items) walks
 
 abbrev none : Ends
 none = record { statement = 0; src = 0; dst = 0 }

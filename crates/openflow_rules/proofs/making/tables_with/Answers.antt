@@ -1,4 +1,4 @@
-use Rattle.std.proofs.Common.{◌≡◌, ◌<◌, ℕ, List, Vec, Global, length, map, sym, ◌∙◌, ap, subst, arith}
+use Rattle.std.proofs.Common.{ℕ, List, length, map, sym, ◌∙◌, ap, subst, arith}
 use Rattle.std.specs.List.{AllZip}
 use Rattle.merlin_model.specs.declared.policy.Ends.{Ends}
 use Rattle.merlin_model.specs.declared.policy.Symbol.{Symbol}
@@ -15,17 +15,15 @@ use Rattle.rule_tables.specs.declared.branches.TagKey.{TagKey}
 use Rattle.rule_tables.specs.declared.branches.Branch.{Branch}
 use Rattle.rule_tables.specs.declared.branches.GroupBranches.{GroupBranches}
 use Rattle.rule_tables.specs.declared.branches.OwnedCell.{OwnedCell}
-use Rattle.rule_tables.specs.Branches.{key_of, owned_of, IsPrepared, AreTablesOf}
+use Rattle.rule_tables.specs.Branches.{key_of, owned_of, AreTablesOf}
 use Rattle.openflow_rules.specs.Planning.{statement_automata, AreTags}
 use Rattle.openflow_rules.specs.GroupSpans.{spans_over}
 use Rattle.openflow_rules.specs.Gathered.{AreAllBelow, IsBranchFor}
 use Rattle.openflow_rules.specs.WalkGroups.{AreGroupsFor}
 use Rattle.openflow_rules.proofs.ChosenGroups.{walked, are-walked, ends-few}
 use Rattle.openflow_rules.proofs.ChosenTables.{written, prepared, whole}
+use Rattle.openflow_rules.proofs.ChosenWalks.{words}
 use Rattle.openflow_rules.proofs.making.tables_with.Goals as goal
-
-abbrev words : List (Vec Symbol Global) → List (List Symbol)
-words walks = map (λ w. w.items) walks
 
 pub all_groups-requires-clause-leaders : goal.all_groups-requires-clause-leaders
 all_groups-requires-clause-leaders c =
@@ -53,9 +51,9 @@ returns c =
     let groups : List Group = map (walked net checked ends automata all walks) leaders in
     let are = are-walked net checked ends automata all walks leaders (λ j i. ((parts.grouped.leaders_are j).0 i).0) in
     let branches = subst (λ (l : List ℕ). AllZip (IsBranchFor net parts.groups) (spans_over (all_hosts net) ends l) c.as_slice-branches.result.now) (sym c.as_slice-leaders.ensures)
-        (subst (λ (l : List Branch). AllZip (IsBranchFor net parts.groups) (spans_over (all_hosts net) ends leaders) l) (sym c.as_slice-branches.ensures) parts.branches) in
+    (subst (λ (l : List Branch). AllZip (IsBranchFor net parts.groups) (spans_over (all_hosts net) ends leaders) l) (sym c.as_slice-branches.ensures) parts.branches) in
     let made = subst (λ (l : List GroupBranches). AreGroupsFor net checked ends walks parts.groups leaders l) (sym c.deref.ensures.value)
-        (subst (λ (l : List ℕ). AreGroupsFor net checked ends walks parts.groups l c.in_ok-groups.groups.items) c.as_slice-leaders.ensures (c.in_ok-groups.ensures parts.groups branches)) in
+    (subst (λ (l : List ℕ). AreGroupsFor net checked ends walks parts.groups l c.in_ok-groups.groups.items) c.as_slice-leaders.ensures (c.in_ok-groups.ensures parts.groups branches)) in
     let owned = ap (λ (l : List OwnedCell). map owned_of l) c.as_slice-4.ensures ∙ c.in_ok-owned.ensures ∙ ap (λ (l : List ℕ). all_owned net (grouped_cells checked.policy l (pair_cells net checked.policy))) c.as_slice-2.ensures in
     let tags = subst (λ (l : List TagKey). AreTags net parts.groups (map key_of l)) (sym c.as_slice-3.ensures) parts.tags in
     if-ok (λ t. AreTablesOf net groups (grouped_cells checked.policy group_of (pair_cells net checked.policy)) t.rules t.processes)

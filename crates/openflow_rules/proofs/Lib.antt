@@ -18,3 +18,8 @@ mod WalkStarts
 mod SharedWalks
 mod Sending
 mod SourceSteps
+mod ChosenGroups
+mod ChosenBranches
+mod ChosenTables
+mod ChosenSteps
+mod ChosenWalks

@@ -7,3 +7,4 @@ pub mod Planning
 pub mod SinkBranches
 pub mod Sources
 pub mod WalkBranches
+pub mod WalkGroups

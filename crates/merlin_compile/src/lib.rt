@@ -3,7 +3,6 @@
 
 mod configuration;
 pub mod laws;
-mod stub;
 
 pub use configuration::configuration_of;
 pub use merlin_model::OutOfMemory;

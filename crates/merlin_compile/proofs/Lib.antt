@@ -1,0 +1,16 @@
+pub mod Few
+pub mod Sound
+pub mod States
+pub mod Kept
+pub mod Stood
+pub mod Groups
+pub mod Planned
+pub mod One
+pub mod Free
+pub mod Lines
+pub mod HostLines
+pub mod Printable
+pub mod Short
+pub mod Walks
+pub mod Cells
+pub mod Made

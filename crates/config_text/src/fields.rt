@@ -5,7 +5,7 @@ ghost use Rattle.std.specs.Fmt.{decimal};
 ghost use Rattle.merlin_base.specs.Addresses.{mac_text, ip_text};
 ghost use Rattle.config_text.specs.Words.{field};
 ghost use Rattle.config_text.specs.Lines.{vlan_text, type_field, match_text};
-ghost use Rattle.config_text.specs.Separated.{AreWritten};
+ghost use Rattle.config_text.specs.Separated.{AreTextsAdded};
 
 use crate::line::Line;
 use crate::lists::{FIRST, NEXT, end_list};
@@ -29,7 +29,7 @@ fn number_field(
     value: Option<u16>,
 ) -> Result<u8, OutOfMemory>
     ensures { IfOk result (λ next.
-        AreWritten separator line.old (field name.now decimal value) next line.new) }
+        AreTextsAdded separator line.old (field name.now decimal value) next line.new) }
 {
     let Some(value) = value else {
         return Ok(separator);
@@ -41,7 +41,7 @@ fn number_field(
 
 fn proto_field(line: &mut Line, separator: u8, value: Option<u8>) -> Result<u8, OutOfMemory>
     ensures { IfOk result (λ next.
-        AreWritten separator line.old (field (codes "nw_proto") decimal value) next line.new) }
+        AreTextsAdded separator line.old (field (codes "nw_proto") decimal value) next line.new) }
 {
     let Some(value) = value else {
         return Ok(separator);
@@ -58,7 +58,7 @@ fn mac_field(
     value: Option<u64>,
 ) -> Result<u8, OutOfMemory>
     ensures { IfOk result (λ next.
-        AreWritten separator line.old (field name.now mac_text value) next line.new) }
+        AreTextsAdded separator line.old (field name.now mac_text value) next line.new) }
 {
     let Some(value) = value else {
         return Ok(separator);
@@ -75,7 +75,7 @@ fn ip_field(
     value: Option<u32>,
 ) -> Result<u8, OutOfMemory>
     ensures { IfOk result (λ next.
-        AreWritten separator line.old (field name.now ip_text value) next line.new) }
+        AreTextsAdded separator line.old (field name.now ip_text value) next line.new) }
 {
     let Some(value) = value else {
         return Ok(separator);
@@ -87,7 +87,7 @@ fn ip_field(
 
 fn vlan_field(line: &mut Line, separator: u8, value: Option<Vlan>) -> Result<u8, OutOfMemory>
     ensures { IfOk result (λ next.
-        AreWritten separator line.old (field (codes "dl_vlan") vlan_text value) next line.new) }
+        AreTextsAdded separator line.old (field (codes "dl_vlan") vlan_text value) next line.new) }
 {
     let Some(value) = value else {
         return Ok(separator);
@@ -102,7 +102,7 @@ fn vlan_field(line: &mut Line, separator: u8, value: Option<Vlan>) -> Result<u8,
 
 fn type_field(line: &mut Line, separator: u8, is_named: bool) -> Result<u8, OutOfMemory>
     ensures { IfOk result (λ next.
-        AreWritten separator line.old (type_field is_named) next line.new) }
+        AreTextsAdded separator line.old (type_field is_named) next line.new) }
 {
     if !is_named {
         return Ok(separator);

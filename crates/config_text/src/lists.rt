@@ -3,7 +3,7 @@
 
 ghost use Rattle.std.specs.Prelude.{◌≡◌, ◌++◌, ◌∷◌, ℕ, List, OnOk};
 ghost use Rattle.config_text.specs.Words.{joined_by_commas};
-ghost use Rattle.config_text.specs.Separated.{AreWritten};
+ghost use Rattle.config_text.specs.Separated.{AreTextsAdded};
 
 use crate::line::Line;
 use merlin_base::OutOfMemory;
@@ -17,7 +17,7 @@ pub(crate) const NEXT: u8 = b',';
 /// Ends a list: where no text was written, this word stands for it.
 pub(crate) fn end_list(line: &mut Line, separator: u8, none: &[u8]) -> Result<(), OutOfMemory>
     ensures { (old : List ℕ) (texts : List (List ℕ)) →
-        AreWritten 32 old texts separator line.old →
+        AreTextsAdded 32 old texts separator line.old →
         OnOk result (line.new ≡ old ++ 32 ∷ joined_by_commas none.now texts) }
 {
     if separator == FIRST {

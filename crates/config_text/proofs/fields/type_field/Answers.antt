@@ -1,10 +1,10 @@
 use Rattle.std.proofs.Common.{◌≡◌, ◌++◌, ◌∷◌, [], ℕ, List, Bool, true, false, codes, ◌∙◌, append_assoc}
 use Rattle.config_text.specs.Lines.{type_field}
-use Rattle.config_text.specs.Separated.{AreWritten}
+use Rattle.config_text.specs.Separated.{AreTextsAdded}
 use Rattle.config_text.proofs.Separators.{written_one}
 use Rattle.config_text.proofs.fields.type_field.Goals as goal
 
-named : (b : Bool) (s : ℕ) (old new : List ℕ) → b ≡ true → new ≡ old ++ s ∷ codes "dl_type=0x0800" → AreWritten s old (type_field b) 44 new
+named : (b : Bool) (s : ℕ) (old new : List ℕ) → b ≡ true → new ≡ old ++ s ∷ codes "dl_type=0x0800" → AreTextsAdded s old (type_field b) 44 new
 named true s old new is e = rw e (written_one s old (codes "dl_type=0x0800"))
 named false s old new is e = absurd cc
 

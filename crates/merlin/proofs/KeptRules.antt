@@ -1,5 +1,5 @@
 -- A policy that keeps all rules over a network breaks none.
-use Rattle.std.proofs.Common.{◌≡◌, ◌≢◌, ◌≤◌, ◌<◌, inl, inr, ℕ, suc, List, [], ◌∷◌, ◌++◌, length, map, slice_get, Contains, Option, None, Some, refl, sym, ◌∙◌, ap, subst, arith}
+use Rattle.std.proofs.Common.{◌≡◌, ◌≢◌, ◌≤◌, ◌<◌, ◌+◌, inl, inr, ℕ, suc, List, [], ◌∷◌, ◌++◌, length, map, slice_get, Contains, Option, None, Some, refl, sym, ◌∙◌, ap, subst, arith}
 use Rattle.std.specs.List.{AllByRecursion, flat_map}
 use Rattle.merlin_model.specs.declared.policy.Path.{Path}
 use Rattle.merlin_model.specs.declared.policy.Symbol.{Symbol}
@@ -91,7 +91,7 @@ not_first xs x e h = none_some (sym (ap (λ l. slice_get l 0) e) ∙ h)
 pub keeps-breaks : (net : Network) (symbols : List Symbol) (raw : Policy) (fault : CheckFault) → KeepsAllRules net symbols raw → BreaksRule net symbols raw fault → fault ≡ check_faults.OutOfMemory
 keeps-breaks net symbols raw (check_faults.UnknownName name) k h = absurd (not_first _ _ k.rated.covering.apart.named h)
 keeps-breaks net symbols raw (check_faults.FunctionUnderNot name) k h = absurd (not_first _ _ k.rated.covering.apart.named h)
-keeps-breaks net symbols raw (check_faults.TooManyClasses count) k (named, many, counted) = let few = k.rated.covering.apart.preds.few in absurd (omega (arith, few, many))
+keeps-breaks net symbols raw (check_faults.TooManyClasses count) k (named, many) = let over = many.0 in let few = k.rated.covering.apart.preds.few in absurd (omega (arith, few, over))
 keeps-breaks net symbols raw (check_faults.Overlap first second packet) k (named, few, shared) =
     let least = shared.least.least_packet in absurd (k.rated.covering.apart.preds.apart shared.i shared.j packet least.is_packet least.has)
 keeps-breaks net symbols raw (check_faults.NotTotal packet) k (apart, left_out) = absurd (k.rated.covering.total left_out.no_default packet left_out.least.is_packet left_out.least.has)

@@ -26,11 +26,11 @@ use Rattle.negotiator.specs.declared.fault.RefineFault.{RefineFault}
 use Rattle.negotiator.specs.declared.fault.RefineFault.TheVariants as refine_faults
 use Rattle.negotiator.specs.Amounts.{IsFirstWideCap, IsFirstWideReserve, IsFirstOutside}
 use Rattle.negotiator.specs.CellCounts.{HasFewCellsTogether}
-use Rattle.negotiator.specs.Refusals.{RefusesRules, IsRefinement}
+use Rattle.negotiator.specs.Refusals.{RefusesRules, RefusesChild, IsRefinement}
 use Rattle.merlin.specs.declared.refine.RefineReply.{RefineReply}
 use Rattle.merlin.specs.declared.refine.RefineReply.TheVariants.{UnreadParent, UnreadChild, UnreadTopology, WrongParent, WrongChild, TooManyCells, Wider, Refines}
 use Rattle.merlin.specs.Reading.{AreContents}
-use Rattle.merlin.specs.Refine.{RefineForm, refine_files, refine_lines, refine_status, ArePolicyTexts, AreComparable, HasPolicies, IsWholeRefinement, HasManyCellsTogether, IsWiderText, IsWiderBy, IsUnreadPolicy, HasUnreadChild, HasUnreadTopology, HasWrongParent, HasWrongChild, Negotiates, IsRefineReply}
+use Rattle.merlin.specs.Refine.{RefineForm, refine_files, refine_lines, refine_status, ArePolicyTexts, AreComparable, HasPolicies, IsWholeRefinement, HasManyCellsTogether, IsWiderText, IsWiderBy, IsFaultOfCells, IsFaultReply, IsUnreadPolicy, HasUnreadChild, HasUnreadTopology, HasWrongParent, HasWrongChild, Negotiates, IsRefineReply}
 use Rattle.merlin.specs.Outcome.{World, Taking}
 use Rattle.merlin.specs.Refinings.{HasNegotiated, HasRefined, HasFoundWider}
 use Rattle.merlin.proofs.KeptRules.{keeps-breaks}
@@ -106,6 +106,35 @@ module _ (world : World) (sink : Taking) (form : RefineForm) (contents : List (L
       let was = was_wider contents reply means e in
       (was.0, negotiated (Wider was.0) (λ p c t. HasPolicies p c t (IsWiderBy was.0)) was.1 are grows)
 
+-- What is replied to a fault of refinement is so of texts that can be compared.
+module _ (p c t : List ℕ) (net : Network) (parent child : NumberedPolicy) (is : AreComparable p c t net parent child) where
+  with_policies : (Holds : Network → NumberedPolicy → NumberedPolicy → Type 0) → Holds net parent child → HasPolicies p c t Holds
+  with_policies Holds holds = record { net = net; parent = parent; child = child; comparable = is; holds = holds }
+
+  of_cells : (fault : RefineFault) → RefusesChild net parent child (network_symbols net) fault → IsFaultOfCells fault → HasManyCellsTogether net parent child
+  of_cells (refine_faults.TooManyCells count) h told = h.0
+  of_cells (refine_faults.PathWider packet word) h told = absurd told
+  of_cells (refine_faults.CapWider term sum) h told = absurd told
+  of_cells (refine_faults.ReserveWider term sum) h told = absurd told
+  of_cells refine_faults.OutOfMemory h told = absurd told
+
+  of_rule : (fault : RefineFault) (text : List ℕ) → RefusesChild net parent child (network_symbols net) fault → IsWiderText net fault text → IsWiderBy text net parent child
+  of_rule (refine_faults.TooManyCells count) text h named = absurd named
+  of_rule (refine_faults.PathWider packet word) text h named = record { few = h.0; fault = refine_faults.PathWider packet word; fails = h.1; named = named }
+  of_rule (refine_faults.CapWider term sum) text h named = record { few = h.0; fault = refine_faults.CapWider term sum; fails = h.1; named = named }
+  of_rule (refine_faults.ReserveWider term sum) text h named = record { few = h.0; fault = refine_faults.ReserveWider term sum; fails = h.1; named = named }
+  of_rule refine_faults.OutOfMemory text h named = absurd named
+
+  pub fault-replied : (fault : RefineFault) (reply : RefineReply) → RefusesChild net parent child (network_symbols net) fault → IsFaultReply net fault reply → Negotiates p c t reply
+  fault-replied fault (UnreadParent f) h told = absurd told
+  fault-replied fault (UnreadChild f) h told = absurd told
+  fault-replied fault (UnreadTopology f) h told = absurd told
+  fault-replied fault (WrongParent f) h told = absurd told
+  fault-replied fault (WrongChild f) h told = absurd told
+  fault-replied fault TooManyCells h told = with_policies HasManyCellsTogether (of_cells fault h told)
+  fault-replied fault (Wider text) h told = with_policies (IsWiderBy text) (of_rule fault text h told)
+  fault-replied fault Refines h told = absurd told
+
 -- A text stands for one policy or is refused, and not both.
 
 same_policy : (a b : Policy) → AreOne (Ok a) (Ok b) → a ≡ b
@@ -165,8 +194,8 @@ module _ (known : KnownLaws) where
         stray.2 (refines.path packet stray.0 word h.packet.is_packet stray.1)
     no_fault (refine_faults.CapWider zero sum) text (paths, h) named = h
     no_fault (refine_faults.CapWider (suc place) sum) text (paths, h) named = no_wide_cap place sum h
-    no_fault (refine_faults.ReserveWider zero sum) text (paths, caps, reserves, h) named = no_outside sum h
-    no_fault (refine_faults.ReserveWider (suc place) sum) text (paths, caps, h) named = no_wide_reserve place sum h
+    no_fault (refine_faults.ReserveWider zero sum) text (paths, h) named = no_outside sum h.2
+    no_fault (refine_faults.ReserveWider (suc place) sum) text (paths, h) named = no_wide_reserve place sum h.1
     no_fault refine_faults.OutOfMemory text h named = named
 
     no_wider : (text : List ℕ) → IsWiderBy text net parent child → ⊥
@@ -251,14 +280,14 @@ module _ (known : KnownLaws) where
     -- where texts can't be compared, each reply is a refusal
     stays_refused : ((net : Network) (parent child : NumberedPolicy) → AreComparable p c t net parent child → ⊥) → (reply : RefineReply) → Negotiates p c t reply
         → refine_status reply ≡ status.Refused
-    stays_refused no (UnreadParent fault) h = refl
-    stays_refused no (UnreadChild fault) h = refl
-    stays_refused no (UnreadTopology fault) h = refl
-    stays_refused no (WrongParent fault) h = refl
-    stays_refused no (WrongChild fault) h = refl
-    stays_refused no TooManyCells h = refl
-    stays_refused no (Wider text) h = absurd (no h.net h.parent h.child h.comparable)
-    stays_refused no Refines h = absurd (no h.net h.parent h.child h.comparable)
+    stays_refused never (UnreadParent fault) h = refl
+    stays_refused never (UnreadChild fault) h = refl
+    stays_refused never (UnreadTopology fault) h = refl
+    stays_refused never (WrongParent fault) h = refl
+    stays_refused never (WrongChild fault) h = refl
+    stays_refused never TooManyCells h = refl
+    stays_refused never (Wider text) h = absurd (never h.net h.parent h.child h.comparable)
+    stays_refused never Refines h = absurd (never h.net h.parent h.child h.comparable)
 
     Negotiates-one : (r s : RefineReply) → Negotiates p c t r → Negotiates p c t s → refine_status s ≡ refine_status r
     Negotiates-one (UnreadParent fault) s h k = stays_refused (λ n a b is. no_unread_parent n a b is fault h) s k

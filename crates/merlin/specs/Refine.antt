@@ -204,7 +204,11 @@ abbrev pub NamesSymbols : Network → RefineFault → Type 0
 NamesSymbols net (refine_faults.PathWider packet word) = AllByRecursion (IsSymbol net) word
 NamesSymbols net fault = ⊤
 
+abbrev pub IsFaultOfCells : RefineFault → Type 0
+IsFaultOfCells (refine_faults.TooManyCells count) = ⊤
+IsFaultOfCells fault = ⊥
+
 abbrev pub IsFaultReply : Network → RefineFault → RefineReply → Type 0
-IsFaultReply net (refine_faults.TooManyCells count) TooManyCells = ⊤
+IsFaultReply net fault TooManyCells = IsFaultOfCells fault
 IsFaultReply net fault (Wider text) = IsWiderText net fault text
 IsFaultReply net fault reply = ⊥

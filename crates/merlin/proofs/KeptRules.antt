@@ -1,5 +1,5 @@
 -- A policy that keeps all rules over a network breaks none.
-use Rattle.std.proofs.Common.{◌≡◌, ◌≢◌, ◌≤◌, ◌<◌, ◌+◌, inl, inr, ℕ, suc, List, [], ◌∷◌, ◌++◌, length, map, slice_get, Contains, Option, None, Some, refl, sym, ◌∙◌, ap, subst, arith}
+use Rattle.std.proofs.Common.{◌≡◌, ◌≢◌, ◌≤◌, ◌<◌, ◌+◌, inl, inr, ℕ, suc, List, [], ◌∷◌, ◌++◌, length, slice_get, Contains, Option, None, Some, refl, sym, ◌∙◌, ap, subst, arith}
 use Rattle.std.specs.List.{AllByRecursion, flat_map}
 use Rattle.merlin_model.specs.declared.policy.Path.{Path}
 use Rattle.merlin_model.specs.declared.policy.Symbol.{Symbol}
@@ -39,7 +39,7 @@ no_longer [] ys differ within = omega arith
 no_longer {X} (x ∷ xs) ys differ within =
     let parts = parted x ys (within x (inl refl)) in
     let others : (z : X) → In z xs → In z (parts.0 ++ parts.1) = λ z i.
-        without x z parts.0 parts.1 (subst (λ l. In z l) parts.2 (within z (inr i))) (all_in (λ v. x ≢ v) xs z differ.0 i) in
+    without x z parts.0 parts.1 (subst (λ l. In z l) parts.2 (within z (inr i))) (all_in (λ v. x ≢ v) xs z differ.0 i) in
     let rest : length xs ≤ length (parts.0 ++ parts.1) = no_longer xs (parts.0 ++ parts.1) differ.1 others in
     let long : length ys ≡ suc (length (parts.0 ++ parts.1)) = ap length parts.2 ∙ one_longer x parts.0 parts.1 in
     omega (arith, rest, long)

@@ -1,5 +1,5 @@
 -- What is replied to two policies and a topology, and what the runs of `refine` leave.
-use Rattle.std.proofs.Common.{◌≡◌, ◌≢◌, ◌≤◌, ◌↔◌, inl, inr, ℕ, zero, suc, List, [], ◌∷◌, sum_by, slice_get, Contains, Option, Some, Result, Ok, Err, refl, sym, ◌∙◌, ap, subst, arith}
+use Rattle.std.proofs.Common.{◌≡◌, ◌≢◌, ◌≤◌, ◌↔◌, inl, inr, ℕ, zero, suc, List, [], ◌∷◌, sum_by, slice_get, Contains, Option, Some, Ok, Err, refl, sym, ◌∙◌, ap, subst, arith}
 use Rattle.merlin_base.specs.Texts.{joined}
 use Rattle.merlin_base.specs.Outside.{Grows}
 use Rattle.merlin_base.specs.declared.status.Status.TheVariants as status
@@ -30,7 +30,7 @@ use Rattle.negotiator.specs.Refusals.{RefusesRules, RefusesChild, IsRefinement}
 use Rattle.merlin.specs.declared.refine.RefineReply.{RefineReply}
 use Rattle.merlin.specs.declared.refine.RefineReply.TheVariants.{UnreadParent, UnreadChild, UnreadTopology, WrongParent, WrongChild, TooManyCells, Wider, Refines}
 use Rattle.merlin.specs.Reading.{AreContents}
-use Rattle.merlin.specs.Refine.{RefineForm, refine_files, refine_lines, refine_status, ArePolicyTexts, AreComparable, HasPolicies, IsWholeRefinement, HasManyCellsTogether, IsWiderText, IsWiderBy, IsFaultOfCells, IsFaultReply, IsUnreadPolicy, HasUnreadChild, HasUnreadTopology, HasWrongParent, HasWrongChild, Negotiates, IsRefineReply}
+use Rattle.merlin.specs.Refine.{RefineForm, refine_files, refine_lines, refine_status, AreComparable, HasPolicies, IsWholeRefinement, HasManyCellsTogether, IsWiderText, IsWiderBy, IsFaultOfCells, IsFaultReply, IsUnreadPolicy, HasUnreadChild, HasUnreadTopology, HasWrongParent, HasWrongChild, Negotiates, IsRefineReply}
 use Rattle.merlin.specs.Outcome.{World, Taking}
 use Rattle.merlin.specs.Refinings.{HasNegotiated, HasRefined, HasFoundWider}
 use Rattle.merlin.proofs.KeptRules.{keeps-breaks}

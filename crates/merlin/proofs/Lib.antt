@@ -9,6 +9,8 @@ pub mod PlainKept
 pub mod Named
 pub mod Compiling
 pub mod Refuting
+pub mod KeptRules
+pub mod Refining
 pub mod Runs
 pub mod Replies
 pub mod Naming

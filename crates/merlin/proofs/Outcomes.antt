@@ -5,11 +5,12 @@ use Rattle.merlin_base.specs.Outside.{Grows, GrowsByPrefix, Rose}
 use Rattle.merlin_base.specs.declared.status.Status.{Status}
 use Rattle.merlin_base.specs.declared.status.Status.TheVariants as status
 use Rattle.merlin.specs.Reading.{AreContents, IsFirstTooLong, RoseIn}
-use Rattle.merlin.specs.Commands.{CommandName, Compiling, Refuting, Dividing, Judging, meaning_of, Form, Reply, files_of, Means, reply_status}
+use Rattle.merlin.specs.Commands.{CommandName, Compiling, Refining, Refuting, Dividing, Judging, meaning_of, Form, Reply, files_of, Means, reply_status}
 use Rattle.merlin.specs.Outcome.{World, Taking, Answer, NoForm, NotRead, TooLong, Replied, IsNoForm, IsAsked, IsAnswerTo, answer_status, answer_text, IsBrokenOff, EndsWith, IsOutcome, EndsAs, IsOfRepliesAlone, IsReplied, IsRefusedFile, IsGiven, IsReplyOver, IsEndOver, IsTooLong, RoseForAFile, SaysByStatus}
 use Rattle.merlin.specs.Parts.{IsReportTo, EndsBy, EndsByResult}
 use Rattle.merlin.specs.declared.report.Report.{Report}
 use Rattle.merlin.specs.declared.compile.CompileReply.TheVariants as compile
+use Rattle.merlin.specs.declared.refine.RefineReply.TheVariants as refine
 use Rattle.merlin.specs.declared.refute.RefuteReply.TheVariants as refute
 use Rattle.merlin.specs.declared.fair.FairReply.TheVariants as fair
 use Rattle.merlin.specs.declared.fairness.FairnessReply.TheVariants as fairness
@@ -27,6 +28,14 @@ not_other : (name : CommandName) (reply : (meaning_of name).ReplyTo)
     → IsOther ((meaning_of name).status reply) → ⊥
 not_other Compiling (compile.Refused fault) h = h
 not_other Compiling (compile.Least compiled) h = h
+not_other Refining (refine.UnreadParent fault) h = h
+not_other Refining (refine.UnreadChild fault) h = h
+not_other Refining (refine.UnreadTopology fault) h = h
+not_other Refining (refine.WrongParent fault) h = h
+not_other Refining (refine.WrongChild fault) h = h
+not_other Refining refine.TooManyCells h = h
+not_other Refining (refine.Wider text) h = h
+not_other Refining refine.Refines h = h
 not_other Refuting (refute.BadProgram at) h = h
 not_other Refuting (refute.BadTree at) h = h
 not_other Refuting refute.Refuted h = h

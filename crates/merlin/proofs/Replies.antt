@@ -37,6 +37,20 @@ pub texts_of_both : (files : List (Vec ℕ Global)) (file other : Vec ℕ Global
 texts_of_both files file other bytes more long is is' same same' =
     ap texts_read (both files file other long is is') ∙ (ap (λ x. x ∷ other.items ∷ []) (sym same) ∙ ap (λ x. bytes ∷ x ∷ []) (sym same'))
 
+all_three : {A : Type 0} (xs : List A) (a b c : A) → length xs ≡ 3 → a ≡ get_or xs 0 a → b ≡ get_or xs 1 b
+    → c ≡ get_or xs 2 c → xs ≡ a ∷ b ∷ c ∷ []
+all_three [] a b c three p q r = absurd (omega (arith, three))
+all_three (x ∷ []) a b c three p q r = absurd (omega (arith, three))
+all_three (x ∷ y ∷ []) a b c three p q r = absurd (omega (arith, three))
+all_three (x ∷ y ∷ z ∷ []) a b c three p q r = rw (p, q, r)
+all_three (x ∷ y ∷ z ∷ w ∷ xs) a b c three p q r = absurd (omega (arith, three))
+
+pub texts_of_all_three : (files : List (Vec ℕ Global)) (file other last : Vec ℕ Global) (bytes more rest : List ℕ) → length files ≡ 3
+    → file ≡ get_or files 0 file → other ≡ get_or files 1 other → last ≡ get_or files 2 last → bytes ≡ file.items → more ≡ other.items
+    → rest ≡ last.items → texts_read files ≡ bytes ∷ more ∷ rest ∷ []
+texts_of_all_three files file other last bytes more rest long is is' is'' same same' same'' =
+    ap texts_read (all_three files file other last long is is' is'') ∙ (λ i. sym same i ∷ sym same' i ∷ sym same'' i ∷ [])
+
 -- A reply of which something is true, and its lines and status.
 pub IfOk-with : {R E : Type 0} (IsTrueOf : R → Type 0) (lines_of : R → List (List ℕ)) (status_of : R → Status) (reply : R) (result : Result Report E)
     → IsTrueOf reply → IfOk result (λ report. report.lines.items ≡ lines_of reply)

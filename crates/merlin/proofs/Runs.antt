@@ -20,7 +20,10 @@ use Rattle.merlin.specs.declared.fairness.FairnessReply.TheVariants as fairness
 use Rattle.merlin.specs.declared.fairness.FairnessReply.TheVariants.{BadShares, Sound, Unsound}
 use Rattle.merlin.specs.Fair.{FairForm, fair_files, fair_lines, fair_status, IsDivided, IsFairReply}
 use Rattle.merlin.specs.Fairness.{FairnessForm, fairness_files, fairness_lines, fairness_status, HasSoundShares, HasUnsoundShares, IsFairnessReply}
-use Rattle.merlin.specs.Commands.{CommandName, Compiling, Refuting, Dividing, Judging, meaning_of, Form, Reply, IsForm, files_of, Means, reply_lines, reply_status}
+use Rattle.merlin.specs.Refine.{RefineForm}
+use Rattle.merlin.specs.Refinings.{HasRefined, HasFoundWider}
+use Rattle.merlin.proofs.Refining.{refined_by, wider_by}
+use Rattle.merlin.specs.Commands.{CommandName, Compiling, Refining, Refuting, Dividing, Judging, meaning_of, Form, Reply, IsForm, files_of, Means, reply_lines, reply_status}
 use Rattle.merlin.specs.Outcome.{World, Taking, IsReplied, IsOfRepliesAlone, SaysByStatus}
 use Rattle.merlin.specs.Runs.{HasCompiled, HasChecked, HasRefuted, HasFoundFailure, HasDivided, HasFoundSound, HasFoundUnsound, KeepsPromises}
 use Rattle.merlin.proofs.Unique.{IsForm-same}
@@ -134,6 +137,14 @@ module _ (world : World) (sink : Taking) (ended : Status) where
         written = subst (λ r. Grows sink.before sink.after (joined (compile_lines r))) was.is grows;
       }
 
+  refined : (form : RefineForm) → ended ≡ status.Done
+      → Gives (HasRefined world sink form) (record { name = Refining; request = form })
+  refined form e contents are reply means same grows = refined_by world sink form contents reply means (sym e ∙ same) are grows
+
+  wider : (form : RefineForm) → ended ≡ status.RefineNo
+      → Gives (HasFoundWider world sink form) (record { name = Refining; request = form })
+  wider form e contents are reply means same grows = wider_by world sink form contents reply means (sym e ∙ same) are grows
+
   checked : {R : Type 0} (lines_of : R → List (List ℕ)) (files : List (List ℕ × ℕ)) (contents : List (List ℕ))
       (reply known : R) (Holds : List ℕ → List ℕ → Type 0) → WasOver contents reply known Holds
       → AreContents world.known files contents → Grows sink.before sink.after (joined (lines_of reply))
@@ -192,6 +203,8 @@ pub KeepsPromises-from_outcome : (world : World) (sink : Taking) (words : List (
 KeepsPromises-from_outcome world sink words ended says =
     record {
       compiled = λ form is e. of_reply world sink ended _ words Compiling form status.Done tt e (compiled world sink ended form e) is says;
+      refined = λ form is e. of_reply world sink ended _ words Refining form status.Done tt e (refined world sink ended form e) is says;
+      wider = λ form is e. of_reply world sink ended _ words Refining form status.RefineNo tt e (wider world sink ended form e) is says;
       refuted = λ form is e. of_reply world sink ended _ words Refuting form status.Done tt e (refuted world sink ended form e) is says;
       failed = λ form is e. of_reply world sink ended _ words Refuting form status.CheckNo tt e (failed world sink ended form e) is says;
       divided = λ form is e. of_reply world sink ended _ words Dividing form status.Done tt e (divided world sink ended form e) is says;

@@ -8,10 +8,11 @@ use Rattle.merlin_model.specs.declared.policy.Objective.{Objective}
 use Rattle.merlin_model.specs.declared.policy.Objective.TheVariants.{Shortest, Ratio, Reserved}
 use Rattle.config_text.specs.Result.{objective_word}
 use Rattle.merlin.specs.Compile.{CompileForm, IsCompileForm, IsBudget}
+use Rattle.merlin.specs.Refine.{RefineForm, IsRefineForm}
 use Rattle.merlin.specs.Refute.{RefuteForm, IsRefuteForm}
 use Rattle.merlin.specs.Fair.{FairForm, IsFairForm}
 use Rattle.merlin.specs.Fairness.{FairnessForm, IsFairnessForm}
-use Rattle.merlin.specs.Commands.{CommandName, Compiling, Refuting, Dividing, Judging, meaning_of, Form, IsForm}
+use Rattle.merlin.specs.Commands.{CommandName, Compiling, Refining, Refuting, Dividing, Judging, meaning_of, Form, IsForm}
 use Rattle.merlin.specs.Reading.{AreContents, IsFirstTooLong}
 
 unlike : {A : Type 0} (x y : ℕ) (xs ys : List ℕ) → x ∷ xs ≡ y ∷ ys → (x ≡ y → ⊥) → A
@@ -52,6 +53,14 @@ IsCompileForm-same words f g (rest, e, budget) (rest', e', budget') =
     let number : f.budget ≡ g.budget = IsBudget-same rest f.budget g.budget budget (subst (λ r. IsBudget r g.budget) left budget') in
     λ i. record { policy = policy i; topology = topology i; objective = objective i; budget = number i }
 
+IsRefineForm-same : (words : List (List ℕ)) (f g : RefineForm) → IsRefineForm words f
+    → IsRefineForm words g → f ≡ g
+IsRefineForm-same words f g e e' =
+    let parent : f.parent ≡ g.parent = cc in
+    let child : f.child ≡ g.child = cc in
+    let topology : f.topology ≡ g.topology = cc in
+    λ i. record { parent = parent i; child = child i; topology = topology i }
+
 IsRefuteForm-same : (words : List (List ℕ)) (f g : RefuteForm) → IsRefuteForm words f
     → IsRefuteForm words g → f ≡ g
 IsRefuteForm-same words f g e e' =
@@ -75,6 +84,7 @@ IsFairnessForm-same words f g e e' =
 request_same : (name : CommandName) (words : List (List ℕ)) (f g : (meaning_of name).Request)
     → (meaning_of name).IsRequest words f → (meaning_of name).IsRequest words g → f ≡ g
 request_same Compiling = IsCompileForm-same
+request_same Refining = IsRefineForm-same
 request_same Refuting = IsRefuteForm-same
 request_same Dividing = IsFairForm-same
 request_same Judging = IsFairnessForm-same
@@ -84,12 +94,14 @@ request_same Judging = IsFairnessForm-same
 abbrev name_of_word : List ℕ → Option CommandName
 name_of_word word =
     if bytes_eq word (codes "compile") then Some Compiling else
+    if bytes_eq word (codes "refine") then Some Refining else
     if bytes_eq word (codes "refute") then Some Refuting else
     if bytes_eq word (codes "fair") then Some Dividing else
     if bytes_eq word (codes "fairness") then Some Judging else None
 
 name_of_its_word : (name : CommandName) → name_of_word (meaning_of name).word ≡ Some name
 name_of_its_word Compiling = refl
+name_of_its_word Refining = refl
 name_of_its_word Refuting = refl
 name_of_its_word Dividing = refl
 name_of_its_word Judging = refl
@@ -98,6 +110,7 @@ begins : (name : CommandName) (words : List (List ℕ)) (request : (meaning_of n
     → (meaning_of name).IsRequest words request
     → (rest : List (List ℕ)) × (words ≡ (meaning_of name).word ∷ rest)
 begins Compiling words request (rest, e, budget) = (_, e)
+begins Refining words request e = (_, e)
 begins Refuting words request e = (_, e)
 begins Dividing words request e = (_, e)
 begins Judging words request e = (_, e)

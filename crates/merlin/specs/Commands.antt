@@ -5,16 +5,19 @@ use Rattle.merlin_model.specs.Functions.{Behaviour}
 use Rattle.merlin.specs.declared.commands.Command.{Command}
 use Rattle.merlin.specs.declared.commands.Command.TheVariants as commands
 use Rattle.merlin.specs.declared.compile.CompileReply.{CompileReply}
+use Rattle.merlin.specs.declared.refine.RefineReply.{RefineReply}
 use Rattle.merlin.specs.declared.refute.RefuteReply.{RefuteReply}
 use Rattle.merlin.specs.declared.fair.FairReply.{FairReply}
 use Rattle.merlin.specs.declared.fairness.FairnessReply.{FairnessReply}
 use Rattle.merlin.specs.Compile.{CompileForm, IsCompileForm, compile_files, IsCompileReply, compile_lines, compile_status, compile_form}
+use Rattle.merlin.specs.Refine.{RefineForm, IsRefineForm, refine_files, IsRefineReply, refine_lines, refine_status, refine_form}
 use Rattle.merlin.specs.Refute.{RefuteForm, IsRefuteForm, refute_files, IsRefuteReply, refute_lines, refute_status, refute_form}
 use Rattle.merlin.specs.Fair.{FairForm, IsFairForm, fair_files, IsFairReply, fair_lines, fair_status, fair_form}
 use Rattle.merlin.specs.Fairness.{FairnessForm, IsFairnessForm, fairness_files, IsFairnessReply, fairness_lines, fairness_status, fairness_form}
 
 pub data CommandName : Type 0 where
   Compiling : CommandName
+  Refining : CommandName
   Refuting : CommandName
   Dividing : CommandName
   Judging : CommandName
@@ -42,6 +45,16 @@ meaning_of Compiling = record {
   IsReply = λ behaviour. IsCompileReply;
   lines = compile_lines;
   status = compile_status;
+}
+meaning_of Refining = record {
+  word = codes "refine";
+  Request = RefineForm;
+  IsRequest = IsRefineForm;
+  files = refine_files;
+  ReplyTo = RefineReply;
+  IsReply = λ behaviour form. IsRefineReply;
+  lines = refine_lines;
+  status = refine_status;
 }
 meaning_of Refuting = record {
   word = codes "refute";
@@ -81,6 +94,7 @@ pub record Form : Type 0 where
 
 abbrev pub form_of : Command → Form
 form_of (commands.Compile words) = record { name = Compiling; request = compile_form words }
+form_of (commands.Refine words) = record { name = Refining; request = refine_form words }
 form_of (commands.Refute words) = record { name = Refuting; request = refute_form words }
 form_of (commands.Fair words) = record { name = Dividing; request = fair_form words }
 form_of (commands.Fairness words) = record { name = Judging; request = fairness_form words }

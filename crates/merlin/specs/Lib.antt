@@ -4,10 +4,12 @@ pub mod Reports
 pub mod Refusals
 pub mod Compiler
 pub mod Compile
+pub mod Refine
 pub mod Refute
 pub mod Fair
 pub mod Fairness
 pub mod Commands
 pub mod Outcome
 pub mod Parts
+pub mod Refinings
 pub mod Runs

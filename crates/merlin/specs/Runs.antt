@@ -15,6 +15,8 @@ use Rattle.merlin.specs.Fairness.{FairnessForm, IsFairnessForm, fairness_files, 
 use Rattle.merlin_base.specs.declared.status.Status.{Status}
 use Rattle.merlin_base.specs.declared.status.Status.TheVariants as status
 use Rattle.merlin.specs.Outcome.{World, Taking}
+use Rattle.merlin.specs.Refine.{RefineForm, IsRefineForm}
+use Rattle.merlin.specs.Refinings.{HasRefined, HasFoundWider}
 
 -- The sink took exactly the text of the result for these files, and the configuration in it
 -- delivers packets as the policy promises.
@@ -69,11 +71,16 @@ HasFoundUnsound world sink form = (name : List ℕ)
 -- result that keeps its promise. To refute: with
 -- Done the program has no solution, and with CheckNo the first node that fails was named. To divide:
 -- with Done the division is the best. To judge: with Done it is, and with CheckNo the first tenant at
--- fault was named.
+-- fault was named. To refine: with Done the child refines the parent, and with RefineNo the first rule
+-- that fails was named.
 pub record KeepsPromises (world : World) (sink : Taking) (words : List (List ℕ)) (ended : Status)
     : Type 0 where
   pub compiled : (form : CompileForm) → IsCompileForm words form → ended ≡ status.Done
       → HasCompiled world sink form
+  pub refined : (form : RefineForm) → IsRefineForm words form → ended ≡ status.Done
+      → HasRefined world sink form
+  pub wider : (form : RefineForm) → IsRefineForm words form → ended ≡ status.RefineNo
+      → HasFoundWider world sink form
   pub refuted : (form : RefuteForm) → IsRefuteForm words form → ended ≡ status.Done
       → HasRefuted world sink form
   pub failed : (form : RefuteForm) → IsRefuteForm words form → ended ≡ status.CheckNo

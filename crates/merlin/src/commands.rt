@@ -11,6 +11,7 @@ use crate::compile::{Compile, compile_of, compile_report, files_to_compile};
 use crate::fair::{Fair, fair_of, fair_report, files_to_divide};
 use crate::fairness::{Fairness, fairness_of, fairness_report, files_to_judge};
 use crate::reading::{Unread, read_files};
+use crate::refine::{Refine, files_to_refine, refine_of, refine_report};
 use crate::refute::{Refute, files_to_refute, refute_of, refute_report};
 use crate::report::Report;
 use merlin_base::{Files, OutOfMemory};
@@ -22,6 +23,7 @@ use topology::FnDecl;
 #[derive(Clone, Copy)]
 pub enum Command<'a> {
     Compile(Compile<'a>),
+    Refine(Refine<'a>),
     Refute(Refute<'a>),
     Fair(Fair<'a>),
     Fairness(Fairness<'a>),
@@ -34,6 +36,9 @@ pub fn command_of(words: &[String]) -> Option<Command<'_>>
 {
     if let Some(command) = compile_of(words) {
         return Some(Command::Compile(command));
+    }
+    if let Some(command) = refine_of(words) {
+        return Some(Command::Refine(command));
     }
     if let Some(command) = refute_of(words) {
         return Some(Command::Refute(command));
@@ -62,6 +67,7 @@ pub fn contents_for<F: Files>(
 {
     match command {
         Command::Compile(words) => read_files(alloc, files, &files_to_compile(words)),
+        Command::Refine(words) => read_files(alloc, files, &files_to_refine(words)),
         Command::Refute(words) => read_files(alloc, files, &files_to_refute(words)),
         Command::Fair(words) => read_files(alloc, files, &files_to_divide(words)),
         Command::Fairness(words) => read_files(alloc, files, &files_to_judge(words)),
@@ -82,6 +88,7 @@ pub fn report_over<A: Fn(&FnDecl, Packet) -> Packet + Drop>(
 {
     match command {
         Command::Compile(words) => compile_report(alloc, words, contents),
+        Command::Refine(_) => refine_report(alloc, contents),
         Command::Refute(_) => refute_report(alloc, contents),
         Command::Fair(_) => fair_report(alloc, contents),
         Command::Fairness(_) => fairness_report(alloc, contents),

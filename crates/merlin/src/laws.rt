@@ -12,6 +12,14 @@ ghost use Rattle.merlin.specs.declared.refute.RefuteReply.{RefuteReply};
 ghost use Rattle.merlin.specs.declared.refute.RefuteReply.TheVariants as refute;
 ghost use Rattle.merlin.specs.Compile.{CompileForm, IsCompileReply, compile_status};
 ghost use Rattle.merlin.specs.Compiler.{AreCompilable};
+ghost use Rattle.merlin_model.specs.Policies.{Policy};
+ghost use Rattle.refinement_model.specs.Refinement.{Refines};
+ghost use Rattle.negotiator.specs.CellCounts.{HasFewCellsTogether};
+ghost use Rattle.negotiator.specs.Refusals.{IsRefinement};
+ghost use Rattle.merlin.specs.declared.refine.RefineReply.{RefineReply};
+ghost use Rattle.merlin.specs.declared.refine.RefineReply.TheVariants as refine;
+ghost use Rattle.merlin.specs.Refine.{AreComparable, HasManyCellsTogether};
+ghost use Rattle.merlin.specs.Refine.{IsRefineReply, refine_status};
 ghost use Rattle.merlin.specs.Refute.{IsProgramOf, IsTreeOf, IsRefuteReply, refute_status};
 ghost use Rattle.fair_share.specs.declared.share.Share.{Share};
 ghost use Rattle.fair_share.specs.Shares.{Demands, IsSound};
@@ -35,6 +43,30 @@ pub fn compile_replies()
         compile_status other ≡ compile_status reply }
 {
     one_network();
+}
+
+/// Of policies that keep all rules over the network, a child that refines its parent has the reply
+/// `Refines` where their cells are few, and one that does not has RefineNo; where their cells are many,
+/// that is the reply. In any case two replies to the same files have one status.
+pub fn refine_replies()
+    ensures refines { (p c t : List ℕ) (net : Network) (parent child : Policy)
+        (reply : RefineReply) → AreComparable p c t net parent child →
+        IsRefinement net parent child → IsRefineReply (p ∷ c ∷ t ∷ []) reply →
+        reply ≡ refine.Refines }
+    ensures wider { (p c t : List ℕ) (net : Network) (parent child : Policy)
+        (reply : RefineReply) → AreComparable p c t net parent child →
+        HasFewCellsTogether net parent child → ¬ Refines net parent child →
+        IsRefineReply (p ∷ c ∷ t ∷ []) reply → refine_status reply ≡ status.RefineNo }
+    ensures cells { (p c t : List ℕ) (net : Network) (parent child : Policy)
+        (reply : RefineReply) → AreComparable p c t net parent child →
+        HasManyCellsTogether net parent child → IsRefineReply (p ∷ c ∷ t ∷ []) reply →
+        reply ≡ refine.TooManyCells }
+    ensures one { (contents : List (List ℕ)) (reply other : RefineReply) →
+        IsRefineReply contents reply → IsRefineReply contents other →
+        refine_status other ≡ refine_status reply }
+{
+    one_network();
+    refinement_model::laws::all_touching_decide();
 }
 
 /// A tree that refutes the program has the reply `Refuted`, and one that does not has CheckNo. In any

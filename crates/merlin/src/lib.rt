@@ -10,9 +10,11 @@ mod fairness;
 pub mod laws;
 mod program;
 mod reading;
+mod refine;
 mod refusals;
 mod refute;
 mod report;
+mod wider;
 
 pub use compile::{DEFAULT_BUDGET, MAX_BUDGET};
 pub use compiler::{Compiled, EarlyFault, compile_policy};

@@ -44,7 +44,8 @@ fn text_with_name(alloc: Global, text: &str, name: &Name) -> Result<Name, OutOfM
     name_from(alloc, &bytes)
 }
 
-fn policy_fault_text(alloc: Global, fault: &PolicyFault) -> Result<Name, OutOfMemory>
+/// What a fault of a policy's text is called. Want of memory has no name.
+pub fn policy_fault_text(alloc: Global, fault: &PolicyFault) -> Result<Name, OutOfMemory>
     ensures { IfOk result (λ text. text ≡ text_of_policy_fault fault.now) }
 {
     match fault {
@@ -80,7 +81,8 @@ fn shared_port_text(alloc: Global, name: &Name, port: u16) -> Result<Name, OutOf
     name_from(alloc, &bytes)
 }
 
-fn net_fault_text(alloc: Global, fault: &NetFault) -> Result<Name, OutOfMemory>
+/// What a fault of a topology is called. Want of memory has no name.
+pub fn net_fault_text(alloc: Global, fault: &NetFault) -> Result<Name, OutOfMemory>
     ensures { IfOk result (λ text. text ≡ text_of_net_fault fault.now) }
 {
     match fault {
@@ -97,8 +99,8 @@ fn net_fault_text(alloc: Global, fault: &NetFault) -> Result<Name, OutOfMemory>
     }
 }
 
-// Adds a text and then a name.
-fn push_named(bytes: &mut Vec<u8>, front: &str, name: &Name) -> Result<(), OutOfMemory>
+/// Adds a text and then a name.
+pub fn push_named(bytes: &mut Vec<u8>, front: &str, name: &Name) -> Result<(), OutOfMemory>
     ensures { OnOk result (bytes.new.items ≡ bytes.old.items ++ (front.now ++ name.now)) }
 {
     bytes.extend_from_slice(front.as_bytes())?;
@@ -166,7 +168,8 @@ fn rate_fault_text(alloc: Global, fault: &RateFault) -> Result<Name, OutOfMemory
     }
 }
 
-fn check_fault_text(alloc: Global, fault: &CheckFault) -> Result<Name, OutOfMemory>
+/// What a rule that a policy breaks over its network is called. Want of memory has no name.
+pub fn check_fault_text(alloc: Global, fault: &CheckFault) -> Result<Name, OutOfMemory>
     ensures { IfOk result (λ text. text ≡ text_of_check_fault fault.now) }
 {
     match fault {

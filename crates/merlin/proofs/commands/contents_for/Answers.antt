@@ -7,6 +7,12 @@ returns-in-Compile-clause-ok g c = rw (c.in-Compile.is, sym c.files_to_compile.e
 pub returns-in-Compile-clause-err : goal.returns-in-Compile-clause-err
 returns-in-Compile-clause-err g c = rw (c.in-Compile.is, sym c.files_to_compile.ensures) c.read_files.ensures.err
 
+pub returns-in-Refine-clause-ok : goal.returns-in-Refine-clause-ok
+returns-in-Refine-clause-ok g c = rw (c.in-Refine.is, sym c.files_to_refine.ensures) c.read_files-in-Refine.ensures.ok
+
+pub returns-in-Refine-clause-err : goal.returns-in-Refine-clause-err
+returns-in-Refine-clause-err g c = rw (c.in-Refine.is, sym c.files_to_refine.ensures) c.read_files-in-Refine.ensures.err
+
 pub returns-in-Refute-clause-ok : goal.returns-in-Refute-clause-ok
 returns-in-Refute-clause-ok g c = rw (c.in-Refute.is, sym c.files_to_refute.ensures) c.read_files-in-Refute.ensures.ok
 

@@ -13,6 +13,12 @@ compile_report-requires g c = many c.requires.read c.in-Compile.is
 pub returns-in-Compile : goal.returns-in-Compile
 returns-in-Compile g c = rw c.in-Compile.is c.compile_report.ensures
 
+pub refine_report-requires : goal.refine_report-requires
+refine_report-requires g c = many c.requires.read c.in-Refine.is
+
+pub returns-in-Refine : goal.returns-in-Refine
+returns-in-Refine g c = rw c.in-Refine.is c.refine_report.ensures
+
 pub refute_report-requires : goal.refute_report-requires
 refute_report-requires g c = many c.requires.read c.in-Refute.is
 

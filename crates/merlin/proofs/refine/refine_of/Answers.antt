@@ -1,0 +1,12 @@
+use Rattle.std.proofs.Common.{◌≡◌, length, sym, ◌∙◌, arith}
+use Rattle.std.specs.Prelude.{codes}
+use Rattle.std.specs.String.{string_bytes}
+use Rattle.merlin.proofs.Words.{texts_of_just_four, same_bytes}
+use Rattle.merlin.proofs.refine.refine_of.Goals as goal
+
+pub returns-clause-some : goal.returns-clause-some
+returns-clause-some c =
+    let all : length c.args.words.now ≡ 4 = omega (arith, c.in-len4.len_at_least, c.in-len4.len_below) in
+    let split = texts_of_just_four c.args.words.now c.command-item.result c.parent-item.result c.child-item.result c.topology-item.result all c.command-item.is c.parent-item.is c.child-item.is c.topology-item.is in
+    let command : string_bytes c.command-item.result ≡ codes "refine" = sym c.as_str.ensures.value ∙ same_bytes _ _ c.if-ne.ensures in
+    split ∙ rw (command, c.as_str-2.ensures.value, c.as_str-3.ensures.value, c.as_str-4.ensures.value)

@@ -66,13 +66,13 @@ action_free byte (Enqueue out queue) low is = (
   ),
 )
 
-change_is : (a : Action) → IsTagging a → IsAction a
+pub change_is : (a : Action) → IsTagging a → IsAction a
 change_is (SetVlan n) is = is
 change_is StripVlan is = is
 change_is (Output out) is = absurd is
 change_is (Enqueue out queue) is = absurd is
 
-send_is : (a : Action) → IsSending a → IsAction a
+pub send_is : (a : Action) → IsSending a → IsAction a
 send_is (SetVlan n) is = absurd is
 send_is StripVlan is = absurd is
 send_is (Output out) is = is

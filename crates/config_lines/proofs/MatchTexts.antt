@@ -130,23 +130,23 @@ field_free byte key n low is = free_append byte (key_word key) (61 ∷ value_tex
 
 -- The numbers of a match, one for each key, and the list of those that are there.
 
-pub vlan_number : Vlan → ℕ
+unfoldable pub vlan_number : Vlan → ℕ
 vlan_number Untagged = 0
 vlan_number (Tag n) = n
 
-pub type_number : Bool → Option ℕ
+unfoldable pub type_number : Bool → Option ℕ
 type_number true = Some 0
 type_number false = None
 
-pub values : Match → List (Option ℕ)
+unfoldable pub values : Match → List (Option ℕ)
 values m = m.in_port ∷ m.dl_src ∷ m.dl_dst ∷ option_map vlan_number m.dl_vlan ∷ type_number m.dl_type ∷ m.nw_proto ∷ m.nw_src ∷ m.nw_dst ∷ m.tp_src ∷ m.tp_dst ∷ []
 
-pub fields_from : ℕ → List (Option ℕ) → List (ℕ × ℕ)
+unfoldable pub fields_from : ℕ → List (Option ℕ) → List (ℕ × ℕ)
 fields_from r [] = []
 fields_from r (None ∷ os) = fields_from (r + 1) os
 fields_from r (Some n ∷ os) = (r, n) ∷ fields_from (r + 1) os
 
-pub fields_of : Match → List (ℕ × ℕ)
+unfoldable pub fields_of : Match → List (ℕ × ℕ)
 fields_of m = fields_from 0 (values m)
 
 pub text_of : ℕ × ℕ → List ℕ

@@ -44,7 +44,7 @@ lists_rest net version =
     (star_rest (queue_line net) (IsQueueLine net) (from_hosts net) (AreHosts net) (queue_lines net) (queues_apart net)
     (star_rest (host_line net) (IsHostLine net) closing_tree IsTree (host_lines net) (hosts_apart net) (λ a b x y f g e. (tree_rest a b x y f g e).1))))))
 
-behind_whole : (net : Network) (r : ResultText × Tree) (x : List ℕ) → result_text net r ++ x ≡ first_line r.0.version (is_feasible r.0.head) ++ (behind_first net r ++ x)
+pub behind_whole : (net : Network) (r : ResultText × Tree) (x : List ℕ) → result_text net r ++ x ≡ first_line r.0.version (is_feasible r.0.head) ++ (behind_first net r ++ x)
 behind_whole net r x = ap (λ z. z ++ x) (whole_is net r) ∙ append_assoc (first_line r.0.version (is_feasible r.0.head)) (behind_first net r) x
 
 pub result_rest : (net : Network) (r s : ResultText × Tree) (x y : List ℕ) → IsResult net r → IsResult net s → result_text net r ++ x ≡ result_text net s ++ y → x ≡ y

@@ -12,3 +12,8 @@ pub mod Wholes
 pub mod Ends
 pub mod PrintedLines
 pub mod Standing
+pub mod OneWords
+pub mod OneMatch
+pub mod OneLine
+pub mod OneHost
+pub mod OneResult

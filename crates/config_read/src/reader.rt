@@ -3,6 +3,7 @@
 ghost use Rattle.std.specs.Prelude.{◌≡◌, ◌++◌, true, false, IfOk, IfErr};
 ghost use Rattle.merlin_model.specs.Networks.{Network};
 ghost use Rattle.config_text.specs.Lines.{IsConfigOver};
+ghost use Rattle.config_read.specs.declared.result.ResultText.{ResultText as Stated};
 ghost use Rattle.config_read.specs.Heads.{first_line, IsVersion};
 ghost use Rattle.config_read.specs.Answers.{IsTextOfResult, IsConfigFault};
 
@@ -97,12 +98,16 @@ fn read_infeasible(
 }
 
 /// The result over this network that a text stands for, in version 1 or 2. Where it stands for none, the fault is at the start of the first line with which it
-/// begins none, node lines included. A text of a search that ran out of budget is no result.
+/// begins none, node lines included. A text of a search that ran out of budget is no result. `only`: no other result has the text.
 pub fn read(alloc: Global, bytes: &[u8], net: &Topology) -> Result<ResultText, ConfigFault>
     ensures ok { IfOk result (IsTextOfResult net.now bytes.now) }
+    ensures only { IfOk result (λ r. (other : Stated) →
+        IsTextOfResult net.now bytes.now other → other ≡ r) }
     ensures over { IfOk result (λ r. IsConfigOver net.now r.config) }
     ensures err { IfErr result (IsConfigFault net.now bytes.now) }
 {
+    // No two names of the network are alike.
+    let _locations = net.locations();
     let Some(((version, feasible), text)) = read_first_line(bytes) else {
         return Err(ConfigFault::BadConfig { at: 0 });
     };

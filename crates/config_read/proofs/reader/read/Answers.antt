@@ -1,5 +1,6 @@
 use Rattle.config_read.proofs.Wholes.{no_first}
 use Rattle.config_read.proofs.Standing.{answer_over, ok_over}
+use Rattle.config_read.proofs.OneResult.{answer_only}
 use Rattle.config_read.proofs.reader.read.Goals as goal
 
 pub returns-in_default-clause-err : goal.returns-in_default-clause-err
@@ -10,3 +11,10 @@ returns-then-feasible-clause-over c = answer_over c.args.net.now c.args.bytes.no
 
 pub returns-else-feasible-clause-over : goal.returns-else-feasible-clause-over
 returns-else-feasible-clause-over c = answer_over c.args.net.now c.args.bytes.now c.read_infeasible.result (ok_over c.args.net.now c.args.bytes.now c.read_infeasible.result c.read_infeasible.ensures.ok)
+
+pub returns-then-feasible-clause-only : goal.returns-then-feasible-clause-only
+returns-then-feasible-clause-only c = answer_only c.args.net.now c.locations.ensures.lawful.lawful c.args.bytes.now c.read_least.result c.read_least.ensures.ok
+
+pub returns-else-feasible-clause-only : goal.returns-else-feasible-clause-only
+returns-else-feasible-clause-only c =
+    answer_only c.args.net.now c.locations.ensures.lawful.lawful c.args.bytes.now c.read_infeasible.result (ok_over c.args.net.now c.args.bytes.now c.read_infeasible.result c.read_infeasible.ensures.ok)

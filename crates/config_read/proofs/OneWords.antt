@@ -79,14 +79,17 @@ rest_differs (x ∷ xs) ys differ = rest_differs xs ys differ.1
 named_at : {X : Type 0} (name : X → List ℕ) (xs : List X) (i : ℕ) → unwrap_or (option_map name (slice_get xs i)) [] ≡ get_or (map name xs) i []
 named_at name xs i = ap (λ o. unwrap_or o []) (sym (slice_get-map name xs i)) ∙ unwrap_or-slice_get (map name xs) i []
 
-one_named : {X : Type 0} (name : X → List ℕ) (xs : List X) (i j : ℕ) → AreDifferent (map name xs) → i < length xs → j < length xs → unwrap_or (option_map name (slice_get xs i)) [] ≡ unwrap_or (option_map name (slice_get xs j)) [] → i ≡ j
+pub one_named : {X : Type 0} (name : X → List ℕ) (xs : List X) (i j : ℕ) → AreDifferent (map name xs) → i < length xs → j < length xs → unwrap_or (option_map name (slice_get xs i)) [] ≡ unwrap_or (option_map name (slice_get xs j)) [] → i ≡ j
 one_named name xs i j differ f g e =
     let size = length-map xs name in
     one_place [] (map name xs) i j differ (omega arith) (omega arith) (sym (named_at name xs i) ∙ e ∙ named_at name xs j)
 
+pub location_names_differ : (net : Network) → IsNetwork net → AreDifferent (map (λ l. l.name) net.locations)
+location_names_differ net is = front_differs (map (λ l. l.name) net.locations) (map (λ f. f.name) net.functions) is.names
+
 pub location_same : (net : Network) (a b : ℕ) → IsNetwork net → IsLocation net a → IsLocation net b → name_at net a ≡ name_at net b → a ≡ b
 location_same net a b is f g e =
-    one_named (λ l. l.name) net.locations a b (front_differs (map (λ l. l.name) net.locations) (map (λ f. f.name) net.functions) is.names) f.within g.within e
+    one_named (λ l. l.name) net.locations a b (location_names_differ net is) f.within g.within e
 
 pub function_same : (net : Network) (a b : ℕ) → IsNetwork net → IsLineFunction net a → IsLineFunction net b → function_name net.functions a ≡ function_name net.functions b → a ≡ b
 function_same net a b is f g e =

@@ -13,3 +13,4 @@ pub mod Runs
 pub mod Replies
 pub mod Naming
 pub mod Divisions
+pub mod Tracing

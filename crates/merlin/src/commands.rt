@@ -13,6 +13,7 @@ use crate::fairness::{Fairness, fairness_of, fairness_report, files_to_judge};
 use crate::reading::{Unread, read_files};
 use crate::refute::{Refute, files_to_refute, refute_of, refute_report};
 use crate::report::Report;
+use crate::trace::{Tracing, files_to_trace, trace_of, trace_report};
 use merlin_base::{Files, OutOfMemory};
 use packet_model::Packet;
 use std::alloc::Global;
@@ -25,6 +26,7 @@ pub enum Command<'a> {
     Refute(Refute<'a>),
     Fair(Fair<'a>),
     Fairness(Fairness<'a>),
+    Trace(Tracing<'a>),
 }
 
 /// The command that the words are, if they are one.
@@ -43,6 +45,9 @@ pub fn command_of(words: &[String]) -> Option<Command<'_>>
     }
     if let Some(command) = fairness_of(words) {
         return Some(Command::Fairness(command));
+    }
+    if let Some(command) = trace_of(words) {
+        return Some(Command::Trace(command));
     }
     None
 }
@@ -65,6 +70,7 @@ pub fn contents_for<F: Files>(
         Command::Refute(words) => read_files(alloc, files, &files_to_refute(words)),
         Command::Fair(words) => read_files(alloc, files, &files_to_divide(words)),
         Command::Fairness(words) => read_files(alloc, files, &files_to_judge(words)),
+        Command::Trace(words) => read_files(alloc, files, &files_to_trace(words)),
     }
 }
 
@@ -85,5 +91,6 @@ pub fn report_over<A: Fn(&FnDecl, Packet) -> Packet + Drop>(
         Command::Refute(_) => refute_report(alloc, contents),
         Command::Fair(_) => fair_report(alloc, contents),
         Command::Fairness(_) => fairness_report(alloc, contents),
+        Command::Trace(words) => trace_report(alloc, words, contents, apply),
     }
 }

@@ -80,7 +80,8 @@ fn shared_port_text(alloc: Global, name: &Name, port: u16) -> Result<Name, OutOf
     name_from(alloc, &bytes)
 }
 
-fn net_fault_text(alloc: Global, fault: &NetFault) -> Result<Name, OutOfMemory>
+/// What a fault of a topology is called. Want of memory has no name.
+pub fn net_fault_text(alloc: Global, fault: &NetFault) -> Result<Name, OutOfMemory>
     ensures { IfOk result (λ text. text ≡ text_of_net_fault fault.now) }
 {
     match fault {

@@ -13,8 +13,8 @@ pub returns-else-feasible-clause-over : goal.returns-else-feasible-clause-over
 returns-else-feasible-clause-over c = answer_over c.args.net.now c.args.bytes.now c.read_infeasible.result (ok_over c.args.net.now c.args.bytes.now c.read_infeasible.result c.read_infeasible.ensures.ok)
 
 pub returns-then-feasible-clause-only : goal.returns-then-feasible-clause-only
-returns-then-feasible-clause-only c = answer_only c.args.net.now c.locations.ensures.lawful.lawful c.args.bytes.now c.read_least.result c.read_least.ensures.ok
+returns-then-feasible-clause-only c = answer_only c.args.net.now c.locations-locations.ensures.lawful.lawful c.args.bytes.now c.read_least.result c.read_least.ensures.ok
 
 pub returns-else-feasible-clause-only : goal.returns-else-feasible-clause-only
 returns-else-feasible-clause-only c =
-    answer_only c.args.net.now c.locations.ensures.lawful.lawful c.args.bytes.now c.read_infeasible.result (ok_over c.args.net.now c.args.bytes.now c.read_infeasible.result c.read_infeasible.ensures.ok)
+    answer_only c.args.net.now c.locations-locations.ensures.lawful.lawful c.args.bytes.now c.read_infeasible.result (ok_over c.args.net.now c.args.bytes.now c.read_infeasible.result c.read_infeasible.ensures.ok)

@@ -1,13 +1,13 @@
 -- What the command `trace` replies.
-use Rattle.std.proofs.Common.{◌≡◌, ◌<◌, ℕ, List, [], ◌∷◌, map, length, get_or, refl, sym, ◌∙◌, ap, subst, arith, Result, Ok, Err, IfOk, option_map, unwrap_or}
-use Rattle.std.specs.Prelude.{Option, Some, None, slice_get, IsSome}
+use Rattle.std.proofs.Common.{◌≡◌, ◌<◌, ℕ, List, [], ◌∷◌, ◌++◌, map, length, get_or, refl, sym, ◌∙◌, ap, subst, arith, Result, Ok, Err, IfOk, option_map, unwrap_or}
+use Rattle.std.specs.Prelude.{false, true, Option, Some, None, slice_get, IsSome}
 use Rattle.std.specs.String.{string_bytes}
 use Rattle.std.specs.declared.string.String.{String}
 use Rattle.std.specs.declared.alloc.Global.{Global}
 use Rattle.std.proofs.lemmas.Option.{slice_get_within}
 use Rattle.merlin_model.specs.declared.config.Config.{Config}
 use Rattle.merlin_model.specs.Packets.{Packet}
-use Rattle.merlin_model.specs.Networks.{Network, IsNetwork, IsHost}
+use Rattle.merlin_model.specs.Networks.{Network, IsNetwork, IsHost, address_of}
 use Rattle.merlin_model.specs.Functions.{Behaviour}
 use Rattle.merlin_model.specs.Machine.{Frame, start}
 use Rattle.merlin_model.specs.Machine as machine
@@ -23,8 +23,8 @@ use Rattle.merlin.specs.Words.{word_texts}
 use Rattle.merlin.specs.declared.trace.TraceReply.{TraceReply}
 use Rattle.merlin.specs.declared.trace.TraceReply.TheVariants as replies
 use Rattle.merlin.specs.Inputs.{AreNetworkAndResult, BearsName}
-use Rattle.merlin.specs.Trace.{TraceForm, IsHostNamed, run_lines, Traces}
-use Rattle.merlin.specs.Tracing.{HasLines, TellsEnd, TellsTrace, TellsRun}
+use Rattle.merlin.specs.Trace.{TraceForm, IsHostNamed, visit_line, end_line, run_lines, Traces}
+use Rattle.merlin.specs.Tracing.{IsEndedWith, HasLines, TellsEnd, TellsTrace, TellsRun}
 
 -- Five words.
 
@@ -56,8 +56,11 @@ pub one_bearer : (net : Network) (name : List ℕ) (a b : ℕ) → IsNetwork net
 one_bearer net name a b is f g =
     one_named (λ l. l.name) net.locations a b (location_names_differ net is) (location_within net name a f) (location_within net name b g) (ap (λ o. unwrap_or o []) (f ∙ sym g))
 
-pub no_host : (net : Network) (name : List ℕ) (loc : ℕ) → IsNetwork net → BearsName net name loc → ¬ IsHost net loc → (host : ℕ) → ¬ IsHostNamed net name host
-no_host net name loc is bears none host named = none (subst (IsHost net) (one_bearer net name host loc is named.0 bears) named.1)
+unlike : {A : Type 0} → false ≡ true → A
+unlike e = cc
+
+pub no_host : (net : Network) (name : List ℕ) (loc : ℕ) → IsNetwork net → BearsName net name loc → address_of net loc ≡ None → (host : ℕ) → ¬ IsHostNamed net name host
+no_host net name loc is bears none host named = unlike (subst IsSome (ap (address_of net) (one_bearer net name host loc is named.0 bears) ∙ none) named.1)
 
 -- From a trace to what it tells of the run.
 
@@ -82,6 +85,13 @@ module _ (net : Network) (config : Config) (behaviour : Behaviour) (f : Frame) w
       → IfOk result (TellsTrace net trace) → IfOk result (TellsRun net config behaviour f)
   TellsRun-from_trace trace (Ok reply) is h = of_end trace.visits trace.end reply is h
   TellsRun-from_trace trace (Err e) is h = tt
+
+pub TellsTrace-delivered : {E : Type 0} (net : Network) (trace : Trace) (host : ℕ) (packet : Packet) (end : List ℕ) (result : Result TraceReply E)
+    → trace.end ≡ Delivered host packet → end ≡ end_line net (machine.Delivered host packet)
+    → IfOk result (IsEndedWith (map (visit_line net) (map record_of trace.visits) ++ end ∷ [])) → IfOk result (TellsTrace net trace)
+TellsTrace-delivered net trace host packet end result is same h =
+    subst (λ k. IfOk result (TellsEnd net (map record_of trace.visits) k)) (sym is)
+    (subst (λ l. IfOk result (IsEndedWith (map (visit_line net) (map record_of trace.visits) ++ l ∷ []))) same h)
 
 -- From what is told of a run to the reply.
 Traces-from_run : (behaviour : Behaviour) (form : TraceForm) (topology bytes : List ℕ) (net : Network) (read : ResultText) (host : ℕ) (packet : Packet) (reply : TraceReply)

@@ -24,14 +24,17 @@ IsStart net host packet starts.UnknownHost = (loc : ℕ) → ¬ IsHostNamed net 
 IsStart net host packet (starts.BadPacket at) =
     (loc : ℕ) × IsHostNamed net host loc × IsFirstWrong packet at
 
--- the reply has the lines of a run that came to its end
+-- the reply has these lines, of a run that came to its end
+abbrev pub IsEndedWith : List (List ℕ) → TraceReply → Type 0
+IsEndedWith told (BadTopology fault) = ⊥
+IsEndedWith told (BadResult at) = ⊥
+IsEndedWith told (UnknownHost name) = ⊥
+IsEndedWith told (BadPacket at) = ⊥
+IsEndedWith told (Ended lines) = lines.items ≡ told
+IsEndedWith told StillRunning = ⊥
+
 abbrev pub HasLines : Network → List machine.Visit → machine.End → TraceReply → Type 0
-HasLines net visits end (BadTopology fault) = ⊥
-HasLines net visits end (BadResult at) = ⊥
-HasLines net visits end (UnknownHost name) = ⊥
-HasLines net visits end (BadPacket at) = ⊥
-HasLines net visits end (Ended lines) = lines.items ≡ run_lines net visits end
-HasLines net visits end StillRunning = ⊥
+HasLines net visits end = IsEndedWith (run_lines net visits end)
 
 -- what is replied where a trace is this one
 abbrev pub TellsEnd : Network → List machine.Visit → End → TraceReply → Type 0

@@ -1,5 +1,5 @@
 //! The command `trace`.
-ghost use Rattle.std.specs.Prelude.{◌≡◌, ◌++◌, ◌∷◌, [], ℕ, length, map, IfOk, IfSome, IfNone};
+ghost use Rattle.std.specs.Prelude.{◌≡◌, ◌++◌, ◌∷◌, [], ℕ, List, length, map, IfOk, IfSome, IfNone};
 ghost use Rattle.merlin_model.specs.Networks.{IsHost};
 ghost use Rattle.merlin_model.specs.Machine.{start};
 ghost use Rattle.packet_trace.specs.Behaviours.{behaviour_by};
@@ -11,7 +11,7 @@ ghost use Rattle.merlin.specs.Reports.{IsReportWith};
 ghost use Rattle.merlin.specs.Inputs.{AreNetworkAndResult};
 ghost use Rattle.merlin.specs.Trace.{TraceForm, IsTraceForm, trace_form, trace_files, IsHostNamed};
 ghost use Rattle.merlin.specs.Trace.{visit_line, Traces, IsTraceReply};
-ghost use Rattle.merlin.specs.Tracing.{IsStart, TellsTrace, TellsRun};
+ghost use Rattle.merlin.specs.Tracing.{IsStart, IsEndedWith, TellsTrace, TellsRun};
 ghost use Rattle.merlin.specs.declared.trace.TraceReply.TheVariants.{UnknownHost};
 ghost use Rattle.merlin.specs.Trace.{trace_lines as lines_of_reply, trace_status};
 
@@ -92,10 +92,9 @@ fn host_named(net: &Topology, name: &[u8]) -> Option<usize>
     // No two locations bear one name.
     let _locations = net.locations();
     let loc = net.find(name)?;
-    if net.host(loc).is_some() {
-        Some(loc)
-    } else {
-        None
+    match net.host(loc) {
+        Some(_) => Some(loc),
+        None => None,
     }
 }
 
@@ -121,31 +120,36 @@ fn start_by(net: &Topology, host: &[u8], packet: &[u8]) -> Start
 }
 
 // The lines of the locations that a trace leaves, and the line of its end.
-fn lines_to_end(
+fn reply_with(
     alloc: Global,
     net: &Topology,
     trace: &Trace,
     end: Name,
-) -> Result<Vec<Name>, OutOfMemory>
-    ensures { IfOk result (λ lines. lines.items ≡
-        map (visit_line net.now) (map record_of trace.now.visits) ++ end ∷ []) }
+) -> Result<TraceReply, OutOfMemory>
+    ensures { IfOk result (IsEndedWith
+        (map (visit_line net.now) (map record_of trace.now.visits) ++ end ∷ [])) }
 {
     let mut lines = Vec::new(alloc);
     push_visits(alloc, &mut lines, net, trace.visits.as_slice())?;
     lines.push(end)?;
-    Ok(lines)
+    Ok(TraceReply::Ended(lines))
 }
 
 // What is replied where a trace is this one.
 fn reply_to_trace(alloc: Global, net: &Topology, trace: &Trace) -> Result<TraceReply, OutOfMemory>
     ensures { IfOk result (TellsTrace net.now trace.now) }
 {
-    let end = match trace.end {
-        End::Delivered { host, packet } => delivered_line(alloc, net, host, &packet)?,
-        End::Dropped { loc } => dropped_line(alloc, net, loc)?,
-        End::StillRunning => return Ok(TraceReply::StillRunning),
-    };
-    Ok(TraceReply::Ended(lines_to_end(alloc, net, trace, end)?))
+    match trace.end {
+        End::Delivered { host, packet } => {
+            let end = delivered_line(alloc, net, host, &packet)?;
+            reply_with(alloc, net, trace, end)
+        }
+        End::Dropped { loc } => {
+            let end = dropped_line(alloc, net, loc)?;
+            reply_with(alloc, net, trace, end)
+        }
+        End::StillRunning => Ok(TraceReply::StillRunning),
+    }
 }
 
 // Follows a packet from a host through a configuration.

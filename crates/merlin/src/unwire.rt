@@ -23,7 +23,7 @@ use merlin_base::{Name, OutOfMemory, Status, name_from, split_at_byte};
 use merlin_model::config::Rule;
 use openflow_wire::{WireFault, decode};
 use sqlite_items::Items;
-use std::alloc::{AllocFailed, Global};
+use std::alloc::{AllocError, Global};
 use topology::{NetFault, Topology, read as read_topology};
 
 /// A command to read messages for a switch.
@@ -112,10 +112,10 @@ pub struct MessageFault {
     pub fault: LineFault,
 }
 
-impl<T: Drop> From<AllocFailed<T>> for LineFault {
+impl From<AllocError> for LineFault {
     ghost from_gives = { λ _ gives. gives ≡ line_faults.OutOfMemory };
 
-    fn from(_: AllocFailed<T>) -> Self {
+    fn from(_: AllocError) -> Self {
         LineFault::OutOfMemory
     }
 }

@@ -14,3 +14,4 @@ pub mod Replies
 pub mod Naming
 pub mod Divisions
 pub mod Tracing
+pub mod OneTrace

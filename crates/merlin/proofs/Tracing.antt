@@ -23,7 +23,7 @@ use Rattle.merlin.specs.Words.{word_texts}
 use Rattle.merlin.specs.declared.trace.TraceReply.{TraceReply}
 use Rattle.merlin.specs.declared.trace.TraceReply.TheVariants as replies
 use Rattle.merlin.specs.Inputs.{AreNetworkAndResult, BearsName}
-use Rattle.merlin.specs.Trace.{TraceForm, IsHostNamed, visit_line, end_line, run_lines, Traces}
+use Rattle.merlin.specs.Trace.{TraceForm, IsHostNamed, visit_line, last_told, run_lines, Traces}
 use Rattle.merlin.specs.Tracing.{IsEndedWith, HasLines, TellsEnd, TellsTrace, TellsRun}
 
 -- Five words.
@@ -87,7 +87,7 @@ module _ (net : Network) (config : Config) (behaviour : Behaviour) (f : Frame) w
   TellsRun-from_trace trace (Err e) is h = tt
 
 pub TellsTrace-delivered : {E : Type 0} (net : Network) (trace : Trace) (host : ℕ) (packet : Packet) (end : List ℕ) (result : Result TraceReply E)
-    → trace.end ≡ Delivered host packet → end ≡ end_line net (machine.Delivered host packet)
+    → trace.end ≡ Delivered host packet → end ≡ last_told net (machine.Delivered host packet)
     → IfOk result (IsEndedWith (map (visit_line net) (map record_of trace.visits) ++ end ∷ [])) → IfOk result (TellsTrace net trace)
 TellsTrace-delivered net trace host packet end result is same h =
     subst (λ k. IfOk result (TellsEnd net (map record_of trace.visits) k)) (sym is)

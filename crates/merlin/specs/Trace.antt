@@ -89,13 +89,13 @@ visit_line net visit =
     line (codes "at " ++ (location_name net visit.loc ++ (applied_part net.functions visit.functions
     ++ (through_part visit.queue ++ classed_part visit.class))))
 
-abbrev pub end_line : Network → End → List ℕ
-end_line net (Delivered host packet) =
+abbrev pub last_told : Network → End → List ℕ
+last_told net (Delivered host packet) =
     line (codes "delivered " ++ (location_name net host ++ (codes " " ++ packet_text packet)))
-end_line net (Dropped loc) = line (codes "dropped " ++ location_name net loc)
+last_told net (Dropped loc) = line (codes "dropped " ++ location_name net loc)
 
 abbrev pub run_lines : Network → List Visit → End → List (List ℕ)
-run_lines net visits end = map (visit_line net) visits ++ end_line net end ∷ []
+run_lines net visits end = map (visit_line net) visits ++ last_told net end ∷ []
 
 -- What each reply means of the topology, the result and the words.
 

@@ -5,7 +5,7 @@ ghost use Rattle.config_text.specs.Words.{line};
 ghost use Rattle.config_text.specs.Lines.{function_name as function_name_of};
 ghost use Rattle.merlin_model.specs.Machine.{Delivered, Dropped};
 ghost use Rattle.packet_trace.specs.Trace.{record_of};
-ghost use Rattle.merlin.specs.Trace.{applied_part, through_part, classed_part, visit_line, end_line};
+ghost use Rattle.merlin.specs.Trace.{applied_part, through_part, classed_part, visit_line, last_told};
 
 use crate::inputs::location_name;
 use merlin_base::{Name, OutOfMemory, name_from};
@@ -25,11 +25,7 @@ fn function_name(net: &Topology, function: usize) -> &[u8]
 }
 
 // Adds the names of functions, each behind a comma.
-fn push_others(
-    bytes: &mut Vec<u8>,
-    net: &Topology,
-    functions: &[usize],
-) -> Result<(), OutOfMemory>
+fn push_others(bytes: &mut Vec<u8>, net: &Topology, functions: &[usize]) -> Result<(), OutOfMemory>
     ensures { OnOk result (bytes.new.items ≡ bytes.old.items
         ++ flat_map (λ other. 44 ∷ function_name_of net.now.functions other) functions.now) }
 {
@@ -41,11 +37,7 @@ fn push_others(
 }
 
 // Adds the functions that ran.
-fn push_applied(
-    bytes: &mut Vec<u8>,
-    net: &Topology,
-    functions: &[usize],
-) -> Result<(), OutOfMemory>
+fn push_applied(bytes: &mut Vec<u8>, net: &Topology, functions: &[usize]) -> Result<(), OutOfMemory>
     ensures { OnOk result (bytes.new.items ≡
         bytes.old.items ++ applied_part net.now.functions functions.now) }
 {
@@ -58,11 +50,7 @@ fn push_applied(
 }
 
 // Adds the queue.
-fn push_through(
-    alloc: Global,
-    bytes: &mut Vec<u8>,
-    queue: Option<u16>,
-) -> Result<(), OutOfMemory>
+fn push_through(alloc: Global, bytes: &mut Vec<u8>, queue: Option<u16>) -> Result<(), OutOfMemory>
     ensures { OnOk result (bytes.new.items ≡ bytes.old.items ++ through_part queue) }
 {
     if let Some(queue) = queue {
@@ -73,11 +61,7 @@ fn push_through(
 }
 
 // Adds the class.
-fn push_classed(
-    alloc: Global,
-    bytes: &mut Vec<u8>,
-    class: Option<u16>,
-) -> Result<(), OutOfMemory>
+fn push_classed(alloc: Global, bytes: &mut Vec<u8>, class: Option<u16>) -> Result<(), OutOfMemory>
     ensures { OnOk result (bytes.new.items ≡ bytes.old.items ++ classed_part class) }
 {
     if let Some(class) = class {
@@ -137,7 +121,7 @@ pub fn delivered_line(
     host: usize,
     packet: &Packet,
 ) -> Result<Name, OutOfMemory>
-    ensures { IfOk result (λ name. name ≡ end_line net.now (Delivered host packet.now)) }
+    ensures { IfOk result (λ name. name ≡ last_told net.now (Delivered host packet.now)) }
 {
     let packet = print_packet(alloc, packet)?;
     let mut bytes = Vec::from_slice(alloc, b"delivered ")?;
@@ -150,7 +134,7 @@ pub fn delivered_line(
 
 /// The line of a packet that is dropped.
 pub fn dropped_line(alloc: Global, net: &Topology, loc: usize) -> Result<Name, OutOfMemory>
-    ensures { IfOk result (λ name. name ≡ end_line net.now (Dropped loc)) }
+    ensures { IfOk result (λ name. name ≡ last_told net.now (Dropped loc)) }
 {
     let mut bytes = Vec::from_slice(alloc, b"dropped ")?;
     bytes.extend_from_slice(location_name(net, loc))?;

@@ -15,3 +15,5 @@ pub mod Runs
 pub mod Replies
 pub mod Naming
 pub mod Divisions
+pub mod Tracing
+pub mod OneTrace

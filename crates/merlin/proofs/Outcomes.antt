@@ -6,6 +6,7 @@ use Rattle.merlin_base.specs.declared.status.Status.{Status}
 use Rattle.merlin_base.specs.declared.status.Status.TheVariants as status
 use Rattle.merlin.specs.Reading.{AreContents, IsFirstTooLong, RoseIn}
 use Rattle.merlin.specs.Commands.{CommandName, Compiling, Refining, Refuting, Dividing, Judging, meaning_of, Form, Reply, files_of, Means, reply_status}
+use Rattle.merlin.specs.Commands.{CommandName, Compiling, Refuting, Dividing, Judging, Tracing, meaning_of, Form, Reply, files_of, Means, reply_status}
 use Rattle.merlin.specs.Outcome.{World, Taking, Answer, NoForm, NotRead, TooLong, Replied, IsNoForm, IsAsked, IsAnswerTo, answer_status, answer_text, IsBrokenOff, EndsWith, IsOutcome, EndsAs, IsOfRepliesAlone, IsReplied, IsRefusedFile, IsGiven, IsReplyOver, IsEndOver, IsTooLong, RoseForAFile, SaysByStatus}
 use Rattle.merlin.specs.Parts.{IsReportTo, EndsBy, EndsByResult}
 use Rattle.merlin.specs.declared.report.Report.{Report}
@@ -14,6 +15,7 @@ use Rattle.merlin.specs.declared.refine.RefineReply.TheVariants as refine
 use Rattle.merlin.specs.declared.refute.RefuteReply.TheVariants as refute
 use Rattle.merlin.specs.declared.fair.FairReply.TheVariants as fair
 use Rattle.merlin.specs.declared.fairness.FairnessReply.TheVariants as fairness
+use Rattle.merlin.specs.declared.trace.TraceReply.TheVariants as trace
 use Rattle.merlin.proofs.Unique.{IsForm-same, AreContents-same, AreContents-short}
 
 -- No reply has one of these statuses.
@@ -46,6 +48,12 @@ not_other Judging (fairness.Refused fault) h = h
 not_other Judging (fairness.BadShares at) h = h
 not_other Judging fairness.Sound h = h
 not_other Judging (fairness.Unsound name) h = h
+not_other Tracing (trace.BadTopology fault) h = h
+not_other Tracing (trace.BadResult at) h = h
+not_other Tracing (trace.UnknownHost name) h = h
+not_other Tracing (trace.BadPacket at) h = h
+not_other Tracing (trace.Ended lines) h = h
+not_other Tracing trace.StillRunning h = h
 
 other : {A : Type 0} (form : Form) (reply : Reply form) (ended wanted : Status) → ended ≡ wanted
     → ended ≡ reply_status form reply → IsOther wanted → A

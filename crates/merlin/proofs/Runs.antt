@@ -24,8 +24,13 @@ use Rattle.merlin.specs.Refine.{RefineForm}
 use Rattle.merlin.specs.Refinings.{HasRefined, HasFoundWider}
 use Rattle.merlin.proofs.Refining.{refined_by, wider_by}
 use Rattle.merlin.specs.Commands.{CommandName, Compiling, Refining, Refuting, Dividing, Judging, meaning_of, Form, Reply, IsForm, files_of, Means, reply_lines, reply_status}
+use Rattle.merlin_model.specs.Functions.{Behaviour}
+use Rattle.merlin.specs.declared.trace.TraceReply.{TraceReply}
+use Rattle.merlin.specs.declared.trace.TraceReply.TheVariants as trace
+use Rattle.merlin.specs.Trace.{TraceForm, trace_files, trace_lines, trace_status, HasEnded, HasNoEnd, IsTraceReply}
+use Rattle.merlin.specs.Commands.{CommandName, Compiling, Refuting, Dividing, Judging, Tracing, meaning_of, Form, Reply, IsForm, files_of, Means, reply_lines, reply_status}
 use Rattle.merlin.specs.Outcome.{World, Taking, IsReplied, IsOfRepliesAlone, SaysByStatus}
-use Rattle.merlin.specs.Runs.{HasCompiled, HasChecked, HasRefuted, HasFoundFailure, HasDivided, HasFoundSound, HasFoundUnsound, KeepsPromises}
+use Rattle.merlin.specs.Runs.{HasCompiled, HasChecked, HasRefuted, HasFoundFailure, HasDivided, HasFoundSound, HasFoundUnsound, HasTraced, HasFoundNoEnd, KeepsPromises}
 use Rattle.merlin.proofs.Unique.{IsForm-same}
 
 done_refused : {A : Type 0} → status.Done ≡ status.Refused → A
@@ -36,6 +41,12 @@ done_no e = cc
 
 no_refused : {A : Type 0} → status.CheckNo ≡ status.Refused → A
 no_refused e = cc
+
+done_running : {A : Type 0} → status.Done ≡ status.StillRunning → A
+done_running e = cc
+
+running_refused : {A : Type 0} → status.StillRunning ≡ status.Refused → A
+running_refused e = cc
 
 -- Which reply it was, by its status.
 
@@ -107,6 +118,35 @@ was_unsound contents (BadShares place) means e = no_refused e
 was_unsound contents Sound means e = done_no (sym e)
 was_unsound contents (Unsound name) (d, s, two, unsound) e =
     (name, record { first = d; second = s; two = two; holds = unsound; is = refl })
+
+record WasTraced (behaviour : Behaviour) (form : TraceForm) (contents : List (List ℕ)) (reply : TraceReply) : Type 0 where
+  topology : List ℕ
+  result : List ℕ
+  two : contents ≡ topology ∷ result ∷ []
+  lines : List (List ℕ)
+  ended : HasEnded behaviour form topology result lines
+  is : trace_lines reply ≡ lines
+
+was_traced : (behaviour : Behaviour) (form : TraceForm) (contents : List (List ℕ)) (reply : TraceReply) → IsTraceReply behaviour form contents reply
+    → status.Done ≡ trace_status reply → WasTraced behaviour form contents reply
+was_traced behaviour form contents (trace.BadTopology fault) means e = done_refused e
+was_traced behaviour form contents (trace.BadResult place) means e = done_refused e
+was_traced behaviour form contents (trace.UnknownHost name) means e = done_refused e
+was_traced behaviour form contents (trace.BadPacket place) means e = done_refused e
+was_traced behaviour form contents (trace.Ended lines) (t, r, two, ended) e =
+    record { topology = t; result = r; two = two; lines = lines.items; ended = ended; is = refl }
+was_traced behaviour form contents trace.StillRunning means e = done_running e
+
+was_endless : (behaviour : Behaviour) (form : TraceForm) (contents : List (List ℕ)) (reply : TraceReply) → IsTraceReply behaviour form contents reply
+    → status.StillRunning ≡ trace_status reply
+    → WasOver contents reply trace.StillRunning (λ t r. HasNoEnd behaviour form t r)
+was_endless behaviour form contents (trace.BadTopology fault) means e = running_refused e
+was_endless behaviour form contents (trace.BadResult place) means e = running_refused e
+was_endless behaviour form contents (trace.UnknownHost name) means e = running_refused e
+was_endless behaviour form contents (trace.BadPacket place) means e = running_refused e
+was_endless behaviour form contents (trace.Ended lines) means e = done_running (sym e)
+was_endless behaviour form contents trace.StillRunning (t, r, two, hops) e =
+    record { first = t; second = r; two = two; holds = hops; is = refl }
 
 -- The same of a run.
 
@@ -191,6 +231,24 @@ module _ (world : World) (sink : Taking) (ended : Status) where
       let was = was_unsound contents reply means (sym e ∙ same) in
       (was.0, checked fairness_lines (fairness_files form) contents reply (Unsound was.0) (λ d s. HasUnsoundShares d s was.0) was.1 are grows)
 
+  traced : (form : TraceForm) → ended ≡ status.Done
+      → Gives (HasTraced world sink form) (record { name = Tracing; request = form })
+  traced form e contents are reply means same grows =
+      let was = was_traced world.behaviour form contents reply means (sym e ∙ same) in
+      record {
+        topology = was.topology;
+        result = was.result;
+        are_contents = subst (AreContents world.known (trace_files form)) was.two are;
+        lines = was.lines;
+        ended = was.ended;
+        written = subst (λ lines. Grows sink.before sink.after (joined lines)) was.is grows;
+      }
+
+  endless : (form : TraceForm) → ended ≡ status.StillRunning
+      → Gives (HasFoundNoEnd world sink form) (record { name = Tracing; request = form })
+  endless form e contents are reply means same grows =
+      checked trace_lines (trace_files form) contents reply trace.StillRunning (λ t r. HasNoEnd world.behaviour form t r) (was_endless world.behaviour form contents reply means (sym e ∙ same)) are grows
+
   -- a status that replies alone have is that of a reply
   of_reply : (fact : Type 0) (words : List (List ℕ)) (name : CommandName) (request : (meaning_of name).Request) (known : Status)
       → IsOfRepliesAlone known → ended ≡ known → Gives fact (record { name = name; request = request })
@@ -210,4 +268,6 @@ KeepsPromises-from_outcome world sink words ended says =
       divided = λ form is e. of_reply world sink ended _ words Dividing form status.Done tt e (divided world sink ended form e) is says;
       judged = λ form is e. of_reply world sink ended _ words Judging form status.Done tt e (judged world sink ended form e) is says;
       unsound = λ form is e. of_reply world sink ended _ words Judging form status.CheckNo tt e (unsound world sink ended form e) is says;
+      traced = λ form is e. of_reply world sink ended _ words Tracing form status.Done tt e (traced world sink ended form e) is says;
+      endless = λ form is e. of_reply world sink ended _ words Tracing form status.StillRunning tt e (endless world sink ended form e) is says;
     }

@@ -13,6 +13,8 @@ use Rattle.merlin.specs.Refute.{RefuteForm, IsRefuteForm}
 use Rattle.merlin.specs.Fair.{FairForm, IsFairForm}
 use Rattle.merlin.specs.Fairness.{FairnessForm, IsFairnessForm}
 use Rattle.merlin.specs.Commands.{CommandName, Compiling, Refining, Refuting, Dividing, Judging, meaning_of, Form, IsForm}
+use Rattle.merlin.specs.Trace.{TraceForm, IsTraceForm}
+use Rattle.merlin.specs.Commands.{CommandName, Compiling, Refuting, Dividing, Judging, Tracing, meaning_of, Form, IsForm}
 use Rattle.merlin.specs.Reading.{AreContents, IsFirstTooLong}
 
 unlike : {A : Type 0} (x y : ℕ) (xs ys : List ℕ) → x ∷ xs ≡ y ∷ ys → (x ≡ y → ⊥) → A
@@ -81,6 +83,15 @@ IsFairnessForm-same words f g e e' =
     let shares : f.shares ≡ g.shares = cc in
     λ i. record { demands = demands i; shares = shares i }
 
+IsTraceForm-same : (words : List (List ℕ)) (f g : TraceForm) → IsTraceForm words f
+    → IsTraceForm words g → f ≡ g
+IsTraceForm-same words f g e e' =
+    let topology : f.topology ≡ g.topology = cc in
+    let result : f.result ≡ g.result = cc in
+    let host : f.host ≡ g.host = cc in
+    let packet : f.packet ≡ g.packet = cc in
+    λ i. record { topology = topology i; result = result i; host = host i; packet = packet i }
+
 request_same : (name : CommandName) (words : List (List ℕ)) (f g : (meaning_of name).Request)
     → (meaning_of name).IsRequest words f → (meaning_of name).IsRequest words g → f ≡ g
 request_same Compiling = IsCompileForm-same
@@ -88,6 +99,7 @@ request_same Refining = IsRefineForm-same
 request_same Refuting = IsRefuteForm-same
 request_same Dividing = IsFairForm-same
 request_same Judging = IsFairnessForm-same
+request_same Tracing = IsTraceForm-same
 
 -- The words are one form: each command begins with its own word.
 
@@ -97,7 +109,8 @@ name_of_word word =
     if bytes_eq word (codes "refine") then Some Refining else
     if bytes_eq word (codes "refute") then Some Refuting else
     if bytes_eq word (codes "fair") then Some Dividing else
-    if bytes_eq word (codes "fairness") then Some Judging else None
+    if bytes_eq word (codes "fairness") then Some Judging else
+    if bytes_eq word (codes "trace") then Some Tracing else None
 
 name_of_its_word : (name : CommandName) → name_of_word (meaning_of name).word ≡ Some name
 name_of_its_word Compiling = refl
@@ -105,6 +118,7 @@ name_of_its_word Refining = refl
 name_of_its_word Refuting = refl
 name_of_its_word Dividing = refl
 name_of_its_word Judging = refl
+name_of_its_word Tracing = refl
 
 begins : (name : CommandName) (words : List (List ℕ)) (request : (meaning_of name).Request)
     → (meaning_of name).IsRequest words request
@@ -114,6 +128,7 @@ begins Refining words request e = (_, e)
 begins Refuting words request e = (_, e)
 begins Dividing words request e = (_, e)
 begins Judging words request e = (_, e)
+begins Tracing words request e = (_, e)
 
 Some-inj : {X : Type 0} {x y : X} → Some x ≡ Some y → x ≡ y
 Some-inj {x = x} e = ap (λ o. unwrap_or o x) e

@@ -9,11 +9,13 @@ use Rattle.merlin.specs.declared.refine.RefineReply.{RefineReply}
 use Rattle.merlin.specs.declared.refute.RefuteReply.{RefuteReply}
 use Rattle.merlin.specs.declared.fair.FairReply.{FairReply}
 use Rattle.merlin.specs.declared.fairness.FairnessReply.{FairnessReply}
+use Rattle.merlin.specs.declared.trace.TraceReply.{TraceReply}
 use Rattle.merlin.specs.Compile.{CompileForm, IsCompileForm, compile_files, IsCompileReply, compile_lines, compile_status, compile_form}
 use Rattle.merlin.specs.Refine.{RefineForm, IsRefineForm, refine_files, IsRefineReply, refine_lines, refine_status, refine_form}
 use Rattle.merlin.specs.Refute.{RefuteForm, IsRefuteForm, refute_files, IsRefuteReply, refute_lines, refute_status, refute_form}
 use Rattle.merlin.specs.Fair.{FairForm, IsFairForm, fair_files, IsFairReply, fair_lines, fair_status, fair_form}
 use Rattle.merlin.specs.Fairness.{FairnessForm, IsFairnessForm, fairness_files, IsFairnessReply, fairness_lines, fairness_status, fairness_form}
+use Rattle.merlin.specs.Trace.{TraceForm, IsTraceForm, trace_files, IsTraceReply, trace_lines, trace_status, trace_form}
 
 pub data CommandName : Type 0 where
   Compiling : CommandName
@@ -21,6 +23,7 @@ pub data CommandName : Type 0 where
   Refuting : CommandName
   Dividing : CommandName
   Judging : CommandName
+  Tracing : CommandName
 
 -- What a command is: the word that stands first, what its words may ask for, its files in the order
 -- of the words, each with the most bytes that it may have, what may be replied, what a reply means of
@@ -86,6 +89,16 @@ meaning_of Judging = record {
   lines = fairness_lines;
   status = fairness_status;
 }
+meaning_of Tracing = record {
+  word = codes "trace";
+  Request = TraceForm;
+  IsRequest = IsTraceForm;
+  files = trace_files;
+  ReplyTo = TraceReply;
+  IsReply = IsTraceReply;
+  lines = trace_lines;
+  status = trace_status;
+}
 
 -- a command, as its words ask for it
 pub record Form : Type 0 where
@@ -98,6 +111,7 @@ form_of (commands.Refine words) = record { name = Refining; request = refine_for
 form_of (commands.Refute words) = record { name = Refuting; request = refute_form words }
 form_of (commands.Fair words) = record { name = Dividing; request = fair_form words }
 form_of (commands.Fairness words) = record { name = Judging; request = fairness_form words }
+form_of (commands.Trace words) = record { name = Tracing; request = trace_form words }
 
 -- the words ask for this
 abbrev pub IsForm : List (List ℕ) → Form → Type 0

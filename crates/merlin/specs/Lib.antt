@@ -8,6 +8,9 @@ pub mod Refine
 pub mod Refute
 pub mod Fair
 pub mod Fairness
+pub mod Inputs
+pub mod Trace
+pub mod Tracing
 pub mod Commands
 pub mod Outcome
 pub mod Parts

@@ -12,6 +12,8 @@ use Rattle.merlin.specs.Refute.{RefuteForm, IsRefuteForm, refute_files, refute_l
 use Rattle.merlin.specs.declared.fairness.FairnessReply.TheVariants.{Sound, Unsound}
 use Rattle.merlin.specs.Fair.{FairForm, IsFairForm, fair_files, IsDivided}
 use Rattle.merlin.specs.Fairness.{FairnessForm, IsFairnessForm, fairness_files, fairness_lines, HasSoundShares, HasUnsoundShares}
+use Rattle.merlin.specs.Trace.{TraceForm, IsTraceForm, trace_files, trace_lines, HasEnded, HasNoEnd}
+use Rattle.merlin.specs.declared.trace.TraceReply.TheVariants.{StillRunning}
 use Rattle.merlin_base.specs.declared.status.Status.{Status}
 use Rattle.merlin_base.specs.declared.status.Status.TheVariants as status
 use Rattle.merlin.specs.Outcome.{World, Taking}
@@ -67,12 +69,28 @@ HasFoundUnsound world sink form = (name : List ℕ)
     × HasChecked world sink (fairness_files form) (fairness_lines (Unsound name))
     (λ demands shares. HasUnsoundShares demands shares name)
 
+-- The sink took the lines of the machine's run by the world's packet functions, up to its end.
+pub record HasTraced (world : World) (sink : Taking) (form : TraceForm) : Type 0 where
+  pub topology : List ℕ
+  pub result : List ℕ
+  pub are_contents : AreContents world.known (trace_files form) (topology ∷ result ∷ [])
+  pub lines : List (List ℕ)
+  pub ended : HasEnded world.behaviour form topology result lines
+  pub written : Grows sink.before sink.after (joined lines)
+
+-- The sink took the one line, and by the world's packet functions the machine makes the most hops.
+abbrev pub HasFoundNoEnd : World → Taking → TraceForm → Type 0
+HasFoundNoEnd world sink form =
+    HasChecked world sink (trace_files form) (trace_lines StillRunning)
+    (λ topology result. HasNoEnd world.behaviour form topology result)
+
 -- What a reader asks of each command. To compile: with Done the sink took exactly the text of a
 -- result that keeps its promise. To refute: with
 -- Done the program has no solution, and with CheckNo the first node that fails was named. To divide:
 -- with Done the division is the best. To judge: with Done it is, and with CheckNo the first tenant at
 -- fault was named. To refine: with Done the child refines the parent, and with RefineNo the first rule
--- that fails was named.
+-- that fails was named. To trace: with Done the lines are those of the machine's run to its end, and
+-- with StillRunning the machine makes the most hops.
 pub record KeepsPromises (world : World) (sink : Taking) (words : List (List ℕ)) (ended : Status)
     : Type 0 where
   pub compiled : (form : CompileForm) → IsCompileForm words form → ended ≡ status.Done
@@ -91,3 +109,7 @@ pub record KeepsPromises (world : World) (sink : Taking) (words : List (List ℕ
       → HasFoundSound world sink form
   pub unsound : (form : FairnessForm) → IsFairnessForm words form → ended ≡ status.CheckNo
       → HasFoundUnsound world sink form
+  pub traced : (form : TraceForm) → IsTraceForm words form → ended ≡ status.Done
+      → HasTraced world sink form
+  pub endless : (form : TraceForm) → IsTraceForm words form → ended ≡ status.StillRunning
+      → HasFoundNoEnd world sink form

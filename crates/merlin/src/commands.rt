@@ -14,6 +14,7 @@ use crate::reading::{Unread, read_files};
 use crate::refine::{Refine, files_to_refine, refine_of, refine_report};
 use crate::refute::{Refute, files_to_refute, refute_of, refute_report};
 use crate::report::Report;
+use crate::trace::{Tracing, files_to_trace, trace_of, trace_report};
 use merlin_base::{Files, OutOfMemory};
 use packet_model::Packet;
 use std::alloc::Global;
@@ -27,6 +28,7 @@ pub enum Command<'a> {
     Refute(Refute<'a>),
     Fair(Fair<'a>),
     Fairness(Fairness<'a>),
+    Trace(Tracing<'a>),
 }
 
 /// The command that the words are, if they are one.
@@ -48,6 +50,9 @@ pub fn command_of(words: &[String]) -> Option<Command<'_>>
     }
     if let Some(command) = fairness_of(words) {
         return Some(Command::Fairness(command));
+    }
+    if let Some(command) = trace_of(words) {
+        return Some(Command::Trace(command));
     }
     None
 }
@@ -71,6 +76,7 @@ pub fn contents_for<F: Files>(
         Command::Refute(words) => read_files(alloc, files, &files_to_refute(words)),
         Command::Fair(words) => read_files(alloc, files, &files_to_divide(words)),
         Command::Fairness(words) => read_files(alloc, files, &files_to_judge(words)),
+        Command::Trace(words) => read_files(alloc, files, &files_to_trace(words)),
     }
 }
 
@@ -92,5 +98,6 @@ pub fn report_over<A: Fn(&FnDecl, Packet) -> Packet + Drop>(
         Command::Refute(_) => refute_report(alloc, contents),
         Command::Fair(_) => fair_report(alloc, contents),
         Command::Fairness(_) => fairness_report(alloc, contents),
+        Command::Trace(words) => trace_report(alloc, words, contents, apply),
     }
 }

@@ -1,7 +1,7 @@
 //! Which replies the contents of files have. Each law is the contract of a function that does
 //! nothing.
 
-ghost use Rattle.std.specs.Prelude.{◌≡◌, ◌∷◌, [], ℕ, List};
+ghost use Rattle.std.specs.Prelude.{◌≡◌, ◌<◌, ◌∷◌, [], ℕ, List, length};
 ghost use Rattle.merlin_base.specs.declared.status.Status.TheVariants as status;
 ghost use Rattle.merlin_model.specs.Networks.{Network};
 ghost use Rattle.merlin_model.specs.Programs.{Program};
@@ -29,6 +29,15 @@ ghost use Rattle.merlin.specs.declared.fairness.FairnessReply.{FairnessReply};
 ghost use Rattle.merlin.specs.declared.fairness.FairnessReply.TheVariants as fairness;
 ghost use Rattle.merlin.specs.Fair.{IsFairReply, fair_status};
 ghost use Rattle.merlin.specs.Fairness.{AreReadAs, IsFairnessReply, fairness_status};
+ghost use Rattle.merlin_model.specs.declared.network.FnDecl.{FnDecl};
+ghost use Rattle.merlin_model.specs.Packets.{Packet};
+ghost use Rattle.merlin_model.specs.Functions.{answers_of, RunsBy};
+ghost use Rattle.merlin_model.specs.Machine.{Visit, End, start};
+ghost use Rattle.packet_trace.specs.declared.trace.TheConstants.{MAX_HOPS};
+ghost use Rattle.packet_trace.specs.Trace.{MakesHopsBy};
+ghost use Rattle.merlin.specs.declared.trace.TraceReply.{TraceReply};
+ghost use Rattle.merlin.specs.declared.trace.TraceReply.TheVariants as trace;
+ghost use Rattle.merlin.specs.Trace.{TraceForm, IsTracedFrom, IsTraceReply, run_lines, trace_lines, trace_status};
 
 use topology_rules::laws::one_network;
 
@@ -106,3 +115,27 @@ pub fn fairness_replies()
         IsFairnessReply contents reply → IsFairnessReply contents other →
         fairness_status other ≡ fairness_status reply }
 {}
+
+/// Where each packet function answers one packet: a run that ends within fewer hops than the most is told whole, and a packet of which the machine makes
+/// the most hops has the reply `StillRunning`. In any case two replies to the same files and words have one status.
+pub fn trace_replies()
+    ensures ended { (answer : FnDecl → Packet → Packet) (form : TraceForm)
+        (topology result : List ℕ) (of : IsTracedFrom form topology result) (visits : List Visit)
+        (end : End) (reply : TraceReply) →
+        RunsBy of.net of.read.config (answers_of answer) (start of.host of.packet) visits end →
+        length visits < MAX_HOPS →
+        IsTraceReply (answers_of answer) form (topology ∷ result ∷ []) reply →
+        (trace_status reply ≡ status.Done) × (trace_lines reply ≡ run_lines of.net visits end) }
+    ensures endless { (answer : FnDecl → Packet → Packet) (form : TraceForm)
+        (topology result : List ℕ) (of : IsTracedFrom form topology result) (reply : TraceReply) →
+        MakesHopsBy of.net of.read.config (answers_of answer) (start of.host of.packet) MAX_HOPS →
+        IsTraceReply (answers_of answer) form (topology ∷ result ∷ []) reply →
+        reply ≡ trace.StillRunning }
+    ensures one { (answer : FnDecl → Packet → Packet) (form : TraceForm)
+        (contents : List (List ℕ)) (reply other : TraceReply) →
+        IsTraceReply (answers_of answer) form contents reply →
+        IsTraceReply (answers_of answer) form contents other →
+        trace_status other ≡ trace_status reply }
+{
+    one_network();
+}

@@ -7,8 +7,11 @@ ghost use Rattle.merlin.specs.Reading.{AreContents, IsReason, IsUnread, files_wa
 use merlin_base::{Files, Name, ReadFail, name_from, read_all};
 use std::alloc::{AllocFailed, Global};
 
-/// The most bytes of a policy, a topology, a result or a program.
+/// The most bytes of a policy, a topology or a program.
 pub const TEXT_LIMIT: usize = 16_777_216;
+
+/// The most bytes of a result.
+pub const RESULT_LIMIT: usize = 1_610_612_736;
 
 /// A file that a command names, and the most bytes that it may have.
 #[derive(Clone, Copy)]

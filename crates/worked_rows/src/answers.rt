@@ -10,6 +10,7 @@ use crate::{
 use merlin::run;
 use merlin_base::{MemoryFiles, MemorySink, OutOfMemory};
 use packet_model::Packet;
+use packet_trace::declared;
 use std::alloc::Global;
 use topology::FnDecl;
 
@@ -37,7 +38,7 @@ fn run_words(
         words,
         files,
         sink,
-        |_decl: &FnDecl, packet: Packet| packet,
+        |decl: &FnDecl, packet: Packet| declared(decl, packet),
     );
     out.add_number(u64::from(status.code()));
     out.add("\n");

@@ -30,3 +30,9 @@ returns-in-Fairness-clause-ok g c = rw (c.in-Fairness.is, sym c.files_to_judge.e
 
 pub returns-in-Fairness-clause-err : goal.returns-in-Fairness-clause-err
 returns-in-Fairness-clause-err g c = rw (c.in-Fairness.is, sym c.files_to_judge.ensures) c.read_files-in-Fairness.ensures.err
+
+pub returns-in-Trace-clause-ok : goal.returns-in-Trace-clause-ok
+returns-in-Trace-clause-ok g c = rw (c.in-Trace.is, sym c.files_to_trace.ensures) c.read_files-in-Trace.ensures.ok
+
+pub returns-in-Trace-clause-err : goal.returns-in-Trace-clause-err
+returns-in-Trace-clause-err g c = rw (c.in-Trace.is, sym c.files_to_trace.ensures) c.read_files-in-Trace.ensures.err

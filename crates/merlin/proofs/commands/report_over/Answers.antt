@@ -34,5 +34,11 @@ returns-in-Fair g c = rw c.in-Fair.is c.fair_report.ensures
 pub fairness_report-requires : goal.fairness_report-requires
 fairness_report-requires g c = many c.requires.read c.in-Fairness.is
 
-pub returns : goal.returns
-returns g c = rw c.in-Fairness.is c.fairness_report.ensures
+pub returns-in-Fairness : goal.returns-in-Fairness
+returns-in-Fairness g c = rw c.in-Fairness.is c.fairness_report.ensures
+
+pub trace_report-requires-clause-read : goal.trace_report-requires-clause-read
+trace_report-requires-clause-read g c = many c.requires.read c.in-Trace.is
+
+pub returns-in-Trace : goal.returns-in-Trace
+returns-in-Trace g c = rw c.in-Trace.is c.trace_report.ensures

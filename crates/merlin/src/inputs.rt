@@ -1,0 +1,36 @@
+//! What several commands read: a topology, and a result over it.
+ghost use Rattle.std.specs.Prelude.{◌≡◌, IfOk};
+ghost use Rattle.merlin.specs.Refusals.{location_name as location_name_of};
+ghost use Rattle.merlin.specs.Inputs.{wrong_topology_lines as lines_of_topology, wrong_result_lines as lines_of_result};
+
+use crate::refusals::net_fault_text;
+use crate::report::{named_line, numbered_line};
+use merlin_base::{Name, OutOfMemory};
+use std::alloc::Global;
+use topology::{NetFault, Topology};
+
+/// The name of a location, and no byte where there is none.
+pub fn location_name(net: &Topology, loc: usize) -> &[u8]
+    ensures { result.now ≡ location_name_of net.now loc }
+{
+    if loc < net.locations() {
+        net.name(loc).bytes()
+    } else {
+        &[]
+    }
+}
+
+/// What is said of a topology that is refused.
+pub fn wrong_topology_lines(alloc: Global, fault: &NetFault) -> Result<Vec<Name>, OutOfMemory>
+    ensures { IfOk result (λ lines. lines.items ≡ lines_of_topology fault.now) }
+{
+    let text = net_fault_text(alloc, fault)?;
+    named_line(alloc, "refused: ", &text)
+}
+
+/// What is said of a result whose line at this place is wrong.
+pub fn wrong_result_lines(alloc: Global, at: usize) -> Result<Vec<Name>, OutOfMemory>
+    ensures { IfOk result (λ lines. lines.items ≡ lines_of_result at) }
+{
+    numbered_line(alloc, "refused: result at ", at)
+}

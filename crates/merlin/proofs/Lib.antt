@@ -1,15 +1,12 @@
 pub mod Words
 pub mod Files
 pub mod Nothing
-pub mod Printable
 pub mod Lines
 pub mod Unique
 pub mod Outcomes
-pub mod PlainKept
 pub mod Named
 pub mod Compiling
 pub mod Refuting
 pub mod Runs
 pub mod Replies
-pub mod Naming
 pub mod Divisions

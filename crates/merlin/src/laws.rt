@@ -24,7 +24,7 @@ ghost use Rattle.merlin.specs.Fairness.{AreReadAs, IsFairnessReply, fairness_sta
 
 use topology_rules::laws::one_network;
 
-/// A policy and a network that are built are done. In any case two replies to the same files have one
+/// A policy that compiles over its network is done. In any case two replies to the same files have one
 /// status.
 pub fn compile_replies()
     ensures done { (form : CompileForm) (policy topology : List ℕ) (net : Network)
@@ -35,6 +35,11 @@ pub fn compile_replies()
         compile_status other ≡ compile_status reply }
 {
     one_network();
+    path_automaton::laws::one_numbering();
+    merlin_compile::laws::limits_are_kept_or_passed();
+    merlin_compile::laws::kept_rules_are_not_broken();
+    merlin_compile::laws::ends_that_stand_are_not_refused();
+    merlin_compile::laws::made_without_guarantees();
 }
 
 /// A tree that refutes the program has the reply `Refuted`, and one that does not has CheckNo. In any

@@ -37,7 +37,10 @@ pub fn checked_policies_are_sound()
         IsCheckOf net (network_symbols net) raw checked → IsSoundPolicy checked.policy →
         length checked.automaton_numbers ≡ length (paths_of checked.policy) →
         IsChecked net checked.policy (network_symbols net) (statement_automata checked) }
-{}
+{
+    topology::laws::symbols_are_all();
+    policy_names::laws::no_function_stands_under_not();
+}
 
 /// A policy that is within the limits of rules passes none of them.
 pub fn limits_are_kept_or_passed()
@@ -64,7 +67,9 @@ pub fn ends_that_stand_are_not_refused()
 pub fn made_lines_are_over_the_network()
     ensures { (net : Network) (policy : Policy) (ends : List Ends) (walks : List (List Symbol))
         (config : Config) → IsMade net policy ends walks config → IsConfigOver net config }
-{}
+{
+    configuration_model::laws::made_is_compiled();
+}
 
 /// Where nothing is guaranteed there are no ends and no walks, and what is made with none delivers packets, keeps caps and meets the
 /// guarantees, of which there are none. No walks is then the least assignment.

@@ -3,6 +3,7 @@
 
 mod configuration;
 pub mod laws;
+mod stub;
 
 pub use configuration::configuration_of;
 pub use merlin_model::OutOfMemory;

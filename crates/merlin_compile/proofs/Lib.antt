@@ -1,0 +1,14 @@
+pub mod Few
+pub mod Sound
+pub mod States
+pub mod Kept
+pub mod Stood
+pub mod Planned
+pub mod Free
+pub mod Lines
+pub mod HostLines
+pub mod Printable
+pub mod Short
+pub mod Walks
+pub mod Cells
+pub mod Made

@@ -5,6 +5,8 @@ pub mod Lines
 pub mod Unique
 pub mod Outcomes
 pub mod Named
+pub mod OneLimit
+pub mod Configuring
 pub mod Compiling
 pub mod Refuting
 pub mod Runs

@@ -4,7 +4,7 @@ use Rattle.merlin_model.specs.declared.policy.Ends.{Ends}
 use Rattle.merlin_model.specs.declared.policy.Objective.{Objective}
 use Rattle.merlin_model.specs.declared.config.Config.{Config}
 use Rattle.merlin_model.specs.Networks.{Network}
-use Rattle.merlin_model.specs.Policies.{Policy as NumberedPolicy}
+use Rattle.merlin_model.specs.Policies.{Policy as NumberedPolicy, paths_of}
 use Rattle.merlin_model.specs.Rates.{IsGuaranteed}
 use Rattle.merlin_model.specs.Assignments.{AreAllEnds, IsLeast, value_of}
 use Rattle.merlin_model.specs.Headline.{DeliversPackets, MeetsGuarantees, KeepsCaps, HasOneLinePerClass}
@@ -17,7 +17,7 @@ use Rattle.policy_check.specs.declared.fault.CheckFault.TheVariants as check_fau
 use Rattle.policy_check.specs.declared.fault.EndsFault.{EndsFault}
 use Rattle.policy_check.specs.declared.fault.EndsFault.TheVariants as ends_faults
 use Rattle.policy_check.specs.Numbered.{numbered_policy}
-use Rattle.policy_check.specs.Checked.{CheckedPolicy, IsCheckOf}
+use Rattle.policy_check.specs.Checked.{CheckedPolicy, IsCheckOf, IsSoundPolicy}
 use Rattle.policy_check.specs.Rules.{KeepsAllRules, BreaksRule}
 use Rattle.policy_check.specs.Ends.{BreaksEnds}
 use Rattle.topology.specs.Symbols.{network_symbols}
@@ -57,16 +57,22 @@ GuaranteesNothing policy = (i : ℕ) → ¬ IsGuaranteed policy i
 abbrev pub GuaranteesSomething : NumberedPolicy → Type 0
 GuaranteesSomething policy = (i : ℕ) × IsGuaranteed policy i
 
+-- The policy was checked over the network, and each path has the number of an automaton.
+pub record WasChecked (net : Network) (raw : Policy) (checked : CheckedPolicy) : Type 0 where
+  pub is_check : IsCheckOf net (network_symbols net) raw checked
+  pub sound : IsSoundPolicy checked.policy
+  pub numbers : length checked.automaton_numbers ≡ length (paths_of checked.policy)
+
 -- The tags, cells and entries of the policy are within their limits.
 pub record KeepsLimits (net : Network) (raw : Policy) : Type 0 where
   pub checked : CheckedPolicy
-  pub is_check : IsCheckOf net (network_symbols net) raw checked
+  pub was : WasChecked net raw checked
   pub within : IsWithinLimits net checked []
 
 -- They are not, and this names the first limit that is passed.
 pub record PassesLimits (net : Network) (raw : Policy) (fault : RuleFault) : Type 0 where
   pub checked : CheckedPolicy
-  pub is_check : IsCheckOf net (network_symbols net) raw checked
+  pub was : WasChecked net raw checked
   pub passes : PassesLimit net checked [] fault
 
 -- The policy is accepted over the network, and guarantees nothing.

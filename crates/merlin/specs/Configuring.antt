@@ -1,13 +1,13 @@
 -- What is configured for a policy over a network, on the way to a whole result.
-use Rattle.std.specs.Prelude.{ℕ, ◌≡◌, ⊤, List, [], length}
+use Rattle.std.specs.Prelude.{ℕ, ◌≡◌, ⊤, List, []}
 use Rattle.merlin_model.specs.declared.policy.Objective.{Objective}
 use Rattle.merlin_model.specs.declared.config.Config.{Config}
 use Rattle.merlin_model.specs.Networks.{Network}
-use Rattle.merlin_model.specs.Policies.{Policy as NumberedPolicy, paths_of}
+use Rattle.merlin_model.specs.Policies.{Policy as NumberedPolicy}
 use Rattle.merlin_model.specs.Assignments.{value_of}
 use Rattle.policy_expansion.specs.declared.policy.Policy.{Policy}
 use Rattle.policy_check.specs.Numbered.{numbered_policy}
-use Rattle.policy_check.specs.Checked.{CheckedPolicy, IsCheckOf, IsSoundPolicy}
+use Rattle.policy_check.specs.Checked.{CheckedPolicy, IsCheckOf}
 use Rattle.topology.specs.Symbols.{network_symbols}
 use Rattle.topology_rules.specs.Faults.{IsTopology}
 use Rattle.config_text.specs.Lines.{IsConfigOver}
@@ -16,13 +16,7 @@ use Rattle.configuration_model.specs.Compiled.{IsMade}
 use Rattle.merlin.specs.declared.compiler.Compiled.{Compiled}
 use Rattle.merlin.specs.declared.compiler.EarlyFault.{EarlyFault}
 use Rattle.merlin.specs.declared.compiler.EarlyFault.TheVariants as early
-use Rattle.merlin.specs.Compiler.{HasAllEnds, GuaranteesNothing, GuaranteesSomething, IsCompilable, RefusesEnds}
-
--- the policy was checked over the network
-pub record WasChecked (net : Network) (raw : Policy) (checked : CheckedPolicy) : Type 0 where
-  pub is_check : IsCheckOf net (network_symbols net) raw checked
-  pub sound : IsSoundPolicy checked.policy
-  pub numbers : length checked.automaton_numbers ≡ length (paths_of checked.policy)
+use Rattle.merlin.specs.Compiler.{WasChecked, HasAllEnds, GuaranteesNothing, GuaranteesSomething, IsCompilable, RefusesEnds}
 
 abbrev pub IsAnyCheck : Network → CheckedPolicy → Type 0
 IsAnyCheck net checked = (raw : Policy) × WasChecked net raw checked

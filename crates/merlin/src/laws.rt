@@ -35,6 +35,7 @@ pub fn compile_replies()
         compile_status other ≡ compile_status reply }
 {
     one_network();
+    topology::laws::symbols_are_all();
     path_automaton::laws::one_numbering();
     merlin_compile::laws::limits_are_kept_or_passed();
     merlin_compile::laws::kept_rules_are_not_broken();

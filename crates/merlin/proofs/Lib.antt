@@ -6,7 +6,7 @@ pub mod Unique
 pub mod Outcomes
 pub mod Named
 pub mod OneLimit
-pub mod Configuring
+pub mod Configured
 pub mod Compiling
 pub mod Refuting
 pub mod Runs

@@ -1,7 +1,7 @@
 use Rattle.std.proofs.lemmas.Result.{IfOk-weaker}
 use Rattle.config_text.specs.Lines.{IsConfigOver}
 use Rattle.merlin.proofs.Compiling.{result_over}
-use Rattle.merlin.proofs.Configuring.{compiled-from}
+use Rattle.merlin.proofs.Configured.{compiled-from}
 use Rattle.merlin.proofs.compiler.compile_policy.Goals as goal
 
 pub returns-clause-ok : goal.returns-clause-ok

@@ -20,11 +20,11 @@ use Rattle.topology_rules.specs.Faults.{IsTopology, Refuses as IsRefusedTopology
 use Rattle.topology_rules.specs.declared.fault.NetFault.{NetFault}
 use Rattle.topology_rules.specs.declared.fault.NetFault.TheVariants as net_faults
 use Rattle.policy_check.specs.Rules.{KeepsAllRules, BreaksRule}
-use Rattle.policy_check.specs.Checked.{CheckedPolicy}
+use Rattle.policy_check.specs.Checked.{CheckedPolicy, IsCheckOf}
 use Rattle.policy_check.specs.declared.guarantees.TheConstants.{MAX_GUARANTEES}
 use Rattle.merlin_model.specs.declared.policy.Ends.{Ends}
 use Rattle.merlin_model.specs.declared.policy.Symbol.{Symbol}
-use Rattle.merlin_model.specs.Policies.{Policy as NumberedPolicy}
+use Rattle.merlin_model.specs.Policies.{Policy as NumberedPolicy, paths_of}
 use Rattle.merlin_model.specs.Assignments.{AreAllEnds}
 use Rattle.openflow_rules.specs.declared.fault.RuleFault.{RuleFault}
 use Rattle.openflow_rules.specs.declared.fault.RuleFault.TheVariants as rule_faults
@@ -36,7 +36,6 @@ use Rattle.merlin.specs.declared.compiler.EarlyFault.{EarlyFault}
 use Rattle.merlin.specs.declared.compiler.EarlyFault.TheVariants as early
 use Rattle.merlin.specs.declared.compile.CompileReply.{CompileReply}
 use Rattle.merlin.specs.declared.compile.CompileReply.TheVariants.{Refused, Least}
-use Rattle.merlin.proofs.OneLimit.{Numbering, passes-too}
 
 Some-inj : {X : Type 0} {x y : X} → Some x ≡ Some y → x ≡ y
 Some-inj {x = x} e = ap (λ o. unwrap_or o x) e
@@ -64,7 +63,10 @@ pub record Known : Type 0 where
       → net ≡ other
   pub apart : (bytes : List ℕ) (net : Network) (cause : NetFault) → IsTopology bytes net
       → IsRefusedTopology cause bytes → cause ≡ net_faults.OutOfMemory
-  pub numbering : Numbering
+  pub one_limit : (net : Network) (raw : Policy) (checked other : CheckedPolicy) (fault : RuleFault) → GuaranteesNothing (numbered_policy net raw)
+      → IsCheckOf net (network_symbols net) raw checked → length checked.automaton_numbers ≡ length (paths_of checked.policy)
+      → IsCheckOf net (network_symbols net) raw other → length other.automaton_numbers ≡ length (paths_of other.policy)
+      → IsWithinLimits net checked [] → PassesLimit net other [] fault → PassesLimit net checked [] fault
   pub rules : (net : Network) (symbols : List Symbol) (raw : Policy) (fault : CheckFault) → KeepsAllRules net symbols raw
       → BreaksRule net symbols raw fault → fault ≡ check_faults.OutOfMemory
   pub ends : (net : Network) (policy : NumberedPolicy) (ends : List Ends) (fault : EndsFault) → AreAllEnds net policy ends
@@ -97,7 +99,7 @@ module _ (known : Known) where
       let none : ends.ends ≡ [] = known.no_ends net (numbered_policy net raw) ends.ends best.nothing ends.are in
       let bare : AreAllEnds net (numbered_policy net raw) [] = subst (AreAllEnds net (numbered_policy net raw)) none ends.are in
       known.limits net keeps.checked [] fault (subst (λ p. AreAllEnds net p []) (sym keeps.was.is_check.policy) bare) keeps.within
-      (passes-too known.numbering net raw best.nothing keeps.checked passes.checked keeps.was passes.was keeps.within fault passes.passes)
+      (known.one_limit net raw keeps.checked passes.checked fault best.nothing keeps.was.is_check keeps.was.numbers passes.was.is_check passes.was.numbers keeps.within passes.passes)
 
   -- what compiles is refused for want of memory alone
   policy_stands : (net : Network) (raw : Policy) (fault : EarlyFault) → IsCompilable raw net → RefusesPolicy net raw fault → IsWantOfMemory fault

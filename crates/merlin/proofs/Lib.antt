@@ -5,7 +5,6 @@ pub mod Lines
 pub mod Unique
 pub mod Outcomes
 pub mod Named
-pub mod OneLimit
 pub mod Configured
 pub mod Compiling
 pub mod Refuting

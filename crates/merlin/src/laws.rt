@@ -35,8 +35,7 @@ pub fn compile_replies()
         compile_status other ≡ compile_status reply }
 {
     one_network();
-    topology::laws::symbols_are_all();
-    path_automaton::laws::one_numbering();
+    merlin_compile::one_limit::limits_of_one_policy();
     merlin_compile::laws::limits_are_kept_or_passed();
     merlin_compile::laws::kept_rules_are_not_broken();
     merlin_compile::laws::ends_that_stand_are_not_refused();

@@ -12,3 +12,4 @@ pub mod Short
 pub mod Walks
 pub mod Cells
 pub mod Made
+pub mod OneLimit

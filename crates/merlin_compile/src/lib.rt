@@ -3,6 +3,7 @@
 
 mod configuration;
 pub mod laws;
+pub mod one_limit;
 mod stub;
 
 pub use configuration::configuration_of;

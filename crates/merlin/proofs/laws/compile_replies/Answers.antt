@@ -6,7 +6,7 @@ returns-clause-done c = λ form policy topology net reply is replied.
     Compiles-done (record {
       one = c.one_network.ensures.one;
       apart = c.one_network.ensures.apart;
-      numbering = record { symbols = c.symbols_are_all.ensures.each; one = c.one_numbering.ensures };
+      one_limit = c.limits_of_one_policy.ensures;
       rules = c.kept_rules_are_not_broken.ensures;
       ends = c.ends_that_stand_are_not_refused.ensures;
       limits = c.limits_are_kept_or_passed.ensures;
@@ -17,7 +17,7 @@ pub returns-clause-one : goal.returns-clause-one
 returns-clause-one c = IsCompileReply-one (record {
       one = c.one_network.ensures.one;
       apart = c.one_network.ensures.apart;
-      numbering = record { symbols = c.symbols_are_all.ensures.each; one = c.one_numbering.ensures };
+      one_limit = c.limits_of_one_policy.ensures;
       rules = c.kept_rules_are_not_broken.ensures;
       ends = c.ends_that_stand_are_not_refused.ensures;
       limits = c.limits_are_kept_or_passed.ensures;

@@ -6,6 +6,7 @@ use Rattle.merlin_model.specs.declared.policy.Symbol.{Symbol}
 use Rattle.merlin_model.specs.Networks.{Network, IsHost}
 use Rattle.merlin_model.specs.Words.{at, IsSymbol}
 use Rattle.merlin_model.specs.Policies.{Policy, paths_of}
+use Rattle.merlin_model.specs.Rates.{IsGuaranteed}
 use Rattle.merlin_model.proofs.Members.{In, in_from, in_to}
 use Rattle.merlin_model.proofs.Ascending.{ascending-same}
 use Rattle.topology.specs.Symbols.{network_symbols}
@@ -25,14 +26,13 @@ use Rattle.product_graph.proofs.Lists.{some-same, all-map}
 use Rattle.predicate_split.specs.declared.fault.TheConstants.{MAX_CELLS}
 use Rattle.policy_expansion.specs.declared.policy.Policy.{Policy as NamedPolicy}
 use Rattle.policy_check.specs.Numbered.{numbered_policy}
-use Rattle.policy_check.specs.Checked.{CheckedPolicy}
+use Rattle.policy_check.specs.Checked.{CheckedPolicy, IsCheckOf}
 use Rattle.configuration_model.specs.Groups.{AreGrouped, IsGroupOf, AreGroups}
 use Rattle.configuration_model.specs.Pairs.{count_of_cells}
 use Rattle.openflow_rules.specs.declared.fault.RuleFault.{RuleFault}
 use Rattle.openflow_rules.specs.declared.fault.RuleFault.TheVariants.{TooManyTags, TooManyCells, TooManyEntries, OutOfMemory}
 use Rattle.openflow_rules.specs.Planning.{statement_automata, AreInnerVertices, destinations_of, products_of, HaveEntries, ArePlanned, IsWithinLimits, PassesLimit}
 use Rattle.merlin_compile.proofs.Sound.{stands}
-use Rattle.merlin.specs.Compiler.{WasChecked, GuaranteesNothing}
 
 -- Two automata that do the same over the symbols of a network, in the states below a bound, which they do not leave.
 record DoAlike (net : Network) (a b : SymbolAutomaton) (n : ℕ) : Type 0 where
@@ -141,6 +141,11 @@ entries-in net gs hs z count h = record {
   count_is = h.count_is;
 }
 
+-- the policy was checked, and each path has the number of an automaton
+record WasChecked (net : Network) (raw : NamedPolicy) (checked : CheckedPolicy) : Type 0 where
+  is_check : IsCheckOf net (network_symbols net) raw checked
+  numbers : length checked.automaton_numbers ≡ length (paths_of checked.policy)
+
 -- What is known of symbols and of the states of a path.
 pub record Numbering : Type 0 where
   pub symbols : (net : Network) (x : Symbol) → Contains (network_symbols net) x ↔ IsSymbol net x
@@ -162,7 +167,7 @@ module _ (known : Numbering) (net : Network) (path : Path) (t u : AutomatonTable
     accepts = λ q lt. let form = below-get forms q lt in a.accepting q form.0 form.1 ∙ sym (b.accepting q form.0 form.1);
   }
 
-module _ (known : Numbering) (net : Network) (raw : NamedPolicy) (free : GuaranteesNothing (numbered_policy net raw)) where
+module _ (known : Numbering) (net : Network) (raw : NamedPolicy) (free : (i : ℕ) → ¬ IsGuaranteed (numbered_policy net raw) i) where
   abbrev policy : Policy
   policy = numbered_policy net raw
 
@@ -190,17 +195,17 @@ module _ (known : Numbering) (net : Network) (raw : NamedPolicy) (free : Guarant
     alike-groups : (j : ℕ) → j < length (paths_of policy) → (g h : Group) → IsBare checked j g → IsBare other j h → AreAlike net g h
     alike-groups j lt g h is as =
         let one = table-of checked was j lt is.tables is.stands in
-        let two = table-of other has j lt as.tables as.stands in
+        let two = table-of other has j lt has.tables has.stands in
         let path : two.path ≡ one.path = some-same (sym two.has ∙ one.has) in
-        let built = subst (λ p. IsBuilt p symbols (Ok as.tables)) path two.built in
+        let built = subst (λ p. IsBuilt p symbols (Ok has.tables)) path two.built in
         let forms : built.0 ≡ one.built.0 = known.one one.path symbols built.0 one.built.0 built.1.states one.built.1.states in
         record {
           free = (is.best_effort (free j)).0;
-          too = (as.best_effort (free j)).0;
+          too = (has.best_effort (free j)).0;
           bound = length one.built.0;
           alike = subst (λ a. DoAlike net a h.automaton (length one.built.0)) (sym is.automaton)
-              (subst (λ b. DoAlike net (automaton_of symbols is.tables) b (length one.built.0)) (sym as.automaton)
-              (alike-tables known net one.path is.tables as.tables one.built.0 one.built.1 (subst (AreTablesOfPath one.path symbols as.tables) forms built.1)));
+              (subst (λ b. DoAlike net (automaton_of symbols is.tables) b (length one.built.0)) (sym has.automaton)
+              (alike-tables known net one.path is.tables has.tables one.built.0 one.built.1 (subst (AreTablesOfPath one.path symbols has.tables) forms built.1)));
         }
 
     alike-all : (leaders : List ℕ) (gs hs : List Group) → AllByRecursion (λ j. j < length (paths_of policy)) leaders → AllZip (IsBare checked) leaders gs → AllZip (IsBare other) leaders hs → AllZip (AreAlike net) gs hs
@@ -239,7 +244,7 @@ module _ (known : Numbering) (net : Network) (raw : NamedPolicy) (free : Guarant
         all-from (j ∷ js) f = (f j (inl refl), all-from js (λ k i. f k (inr i)))
 
     -- what the one passes the other passes, where it is within the limits before
-    pub passes-too : IsWithinLimits net checked [] → (fault : RuleFault) → PassesLimit net other [] fault → PassesLimit net checked [] fault
+    passes-too : IsWithinLimits net checked [] → (fault : RuleFault) → PassesLimit net other [] fault → PassesLimit net checked [] fault
     passes-too within (TooManyTags count) (m, e) =
         let f = within.tags in
         let z = groups-back net f.groups m.groups (planned-alike f.groups m.groups f.planned m.planned) in
@@ -258,3 +263,10 @@ module _ (known : Numbering) (net : Network) (raw : NamedPolicy) (free : Guarant
         let z = groups-back net f.groups h.groups (planned-alike f.groups h.groups f.planned h.planned) in
         (within.tags, within.cells, (n, record { groups = f.groups; planned = f.planned; are = entries-in net h.groups f.groups z n h.are }, many), e)
     passes-too within OutOfMemory h = tt
+
+pub passes-as-well : Numbering → (net : Network) (raw : NamedPolicy) (checked other : CheckedPolicy) (fault : RuleFault) → ((i : ℕ) → ¬ IsGuaranteed (numbered_policy net raw) i) →
+    IsCheckOf net (network_symbols net) raw checked → length checked.automaton_numbers ≡ length (paths_of checked.policy) →
+    IsCheckOf net (network_symbols net) raw other → length other.automaton_numbers ≡ length (paths_of other.policy) →
+    IsWithinLimits net checked [] → PassesLimit net other [] fault → PassesLimit net checked [] fault
+passes-as-well known net raw checked other fault free is numbers as as_many within h =
+    passes-too known net raw free checked other (record { is_check = is; numbers = numbers }) (record { is_check = as; numbers = as_many }) within fault h

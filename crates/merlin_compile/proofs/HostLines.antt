@@ -11,10 +11,10 @@ use Rattle.rules_model.specs.Tables.{all_hosts, is_host_kind}
 use Rattle.predicate_split.specs.declared.pair_cells.Cell.{Cell as HostCell}
 use Rattle.config_text.specs.Lines.{host_of}
 use Rattle.configuration_model.specs.Hosts.{is_classed, is_out, classed_at, class_lines, owner_is, reading_of, readings, output_of_cell, outputs, others, headed, lines_at, host_lines}
-use Rattle.merlin_compile.proofs.Lines.{all-flat, all-mapped, of-kind-below}
+use Rattle.merlin_compile.proofs.Lines.{all-flat, all-mapped, all-chosen, of-kind-below}
 
 module _ (net : Network) (policy : Policy) (sources : List (List ℕ)) (cells : ℕ → ℕ → List HostCell) (s : ℕ) where
-  IsHere : HostLine → Type 0
+  abbrev IsHere : HostLine → Type 0
   IsHere h = host_of h ≡ s
 
   classes-here : (x : ℕ) (is : List ℕ) → AllByRecursion IsHere (class_lines net policy sources cells s x is)
@@ -26,25 +26,17 @@ module _ (net : Network) (policy : Policy) (sources : List (List ℕ)) (cells : 
   headed-here (l ∷ lines) h = (refl, h)
 
   reading-here : (d : ℕ) (c : HostCell) → AllByRecursion IsHere (reading_of net policy sources cells s d c)
-  reading-here d c = by (is_classed net policy sources cells (owner_is net policy sources cells c) s)
-    where
-      by : (b : Bool) → AllByRecursion IsHere (cond b _ _)
-      by true = (refl, refl, tt)
-      by false = (refl, tt)
+  reading-here d c = all-chosen IsHere (is_classed net policy sources cells (owner_is net policy sources cells c) s) _ _ (refl, (refl, tt)) (refl, tt)
 
   readings-here : (d : ℕ) → AllByRecursion IsHere (readings net policy sources cells s d)
-  readings-here d = by (list_any (λ c. is_classed net policy sources cells (owner_is net policy sources cells c) s) (cells s d))
-    where
-      by : (b : Bool) → AllByRecursion IsHere (cond b (flat_map (reading_of net policy sources cells s d) (cells s d)) [])
-      by true = all-flat IsHere (reading_of net policy sources cells s d) (cells s d) (λ c i. reading-here d c)
-      by false = tt
+  readings-here d =
+      all-chosen IsHere (list_any (λ c. is_classed net policy sources cells (owner_is net policy sources cells c) s) (cells s d)) (flat_map (reading_of net policy sources cells s d) (cells s d)) []
+      (all-flat IsHere (reading_of net policy sources cells s d) (cells s d) (λ c i. reading-here d c)) tt
 
   outputs-here : (d : ℕ) → AllByRecursion IsHere (outputs net policy sources cells s d)
-  outputs-here d = by (list_any (λ c. is_out net policy sources cells (owner_is net policy sources cells c) s) (cells s d))
-    where
-      by : (b : Bool) → AllByRecursion IsHere (cond b (map (output_of_cell net policy sources cells s d) (cells s d)) [])
-      by true = all-mapped IsHere (output_of_cell net policy sources cells s d) (cells s d) (λ c i. refl)
-      by false = tt
+  outputs-here d =
+      all-chosen IsHere (list_any (λ c. is_out net policy sources cells (owner_is net policy sources cells c) s) (cells s d)) (map (output_of_cell net policy sources cells s d) (cells s d)) []
+      (all-mapped IsHere (output_of_cell net policy sources cells s d) (cells s d) (λ c i. refl)) tt
 
   lines-here : AllByRecursion IsHere (lines_at net policy sources cells s)
   lines-here =

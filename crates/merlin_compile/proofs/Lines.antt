@@ -35,6 +35,10 @@ pub all-mapped : {X A : Type 0} (P : A → Type 0) (f : X → A) (xs : List X) �
 all-mapped P f [] each = tt
 all-mapped P f (x ∷ xs) each = (each x (inl refl), all-mapped P f xs (λ y i. each y (inr i)))
 
+pub all-chosen : {X : Type 0} (P : X → Type 0) (b : Bool) (xs ys : List X) → AllByRecursion P xs → AllByRecursion P ys → AllByRecursion P (cond b xs ys)
+all-chosen P true xs ys h g = h
+all-chosen P false xs ys h g = g
+
 range-from : (a n k : ℕ) → In k (range_with_len a n) → k < a + n
 range-from a zero k i = absurd i
 range-from a (suc n) k (inl e) = omega arith
@@ -55,12 +59,12 @@ known-below net loc kind e = by (slice_get net.locations loc) refl e
 -- Rules.
 
 module _ (net : Network) (plan : Plan) where
-  IsAt : ℕ → Rule → Type 0
+  abbrev IsAt : ℕ → Rule → Type 0
   IsAt loc r = r.loc ≡ loc
 
   row-at : (loc : ℕ) (row : TableRow) → loc_of row.vertex ≡ loc → (tag : Option ℕ) → AllByRecursion (IsAt loc) (rules_by_tag row tag)
   row-at loc row here None = (here, tt)
-  row-at loc row here (Some n) = (here, here, tt)
+  row-at loc row here (Some n) = (here, (here, tt))
 
   rules-at : (loc : ℕ) → AllByRecursion (IsAt loc) (rules_at net plan loc)
   rules-at loc =
@@ -80,7 +84,7 @@ module _ (net : Network) where
   abbrev IsDeclared : ℕ → Type 0
   IsDeclared f = f < length net.functions
 
-  IsKnown : Vertex → Type 0
+  abbrev IsKnown : Vertex → Type 0
   IsKnown v = IsSymbol net v.symbol
 
   declared : (f : ℕ) (loc : ℕ) → MatchOption (places_of net f) ⊥ (λ places. Contains places loc) → IsDeclared f
@@ -102,11 +106,9 @@ module _ (net : Network) where
 
   here-declared : (loc : ℕ) (us : List Vertex) → AllByRecursion IsKnown us → AllByRecursion IsDeclared (functions_here loc us)
   here-declared loc [] h = tt
-  here-declared loc (u ∷ us) h = by (loc_of u == loc)
-    where
-      by : (b : Bool) → AllByRecursion IsDeclared (cond b (functions_of u.symbol ++ functions_here loc us) [])
-      by true = all_both IsDeclared (functions_of u.symbol) (functions_here loc us) (symbol-declared u.symbol h.0) (here-declared loc us h.1)
-      by false = tt
+  here-declared loc (u ∷ us) h =
+      all-chosen IsDeclared (loc_of u == loc) (functions_of u.symbol ++ functions_here loc us) []
+      (all_both IsDeclared (functions_of u.symbol) (functions_here loc us) (symbol-declared u.symbol h.0) (here-declared loc us h.1)) tt
 
   -- What follows in a product is known.
 
@@ -171,15 +173,11 @@ module _ (net : Network) where
 -- Queues.
 
 module _ (net : Network) (policy : Policy) where
-  QueuesAt : ℕ → Queue → Type 0
+  abbrev QueuesAt : ℕ → Queue → Type 0
   QueuesAt loc q = q.loc ≡ loc
 
   line-at : (link : DirectedLink) (n : ℕ) (e : Ends) (w : List Symbol) → AllByRecursion (QueuesAt link.from) (queue_line policy link n e w)
-  line-at link n e w = by (nat_lt 0 (crossings w link.from link.to))
-    where
-      by : (b : Bool) → AllByRecursion (QueuesAt link.from) (cond b _ [])
-      by true = (refl, tt)
-      by false = tt
+  line-at link n e w = all-chosen (QueuesAt link.from) (nat_lt 0 (crossings w link.from link.to)) _ [] (refl, tt) tt
 
   queues-at : (link : DirectedLink) (n : ℕ) (ends : List Ends) (walks : List (List Symbol)) → AllByRecursion (QueuesAt link.from) (queues_on policy link n ends walks)
   queues-at link n [] walks = tt

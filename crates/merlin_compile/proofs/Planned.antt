@@ -63,14 +63,14 @@ module _ (net : Network) (checked : CheckedPolicy) (ends : List Ends) (all : Are
   IsBareGroup j g = IsGroupOf checked.policy (network_symbols net) (statement_automata checked) ends (bare_walks ends) j g
 
   -- the group of a statement is determined
-  module _ (j : ℕ) (g h : Group) (is : IsBareGroup j g) (as : IsBareGroup j h) where
+  module _ (j : ℕ) (g h : Group) (is : IsBareGroup j g) (other : IsBareGroup j h) where
     automaton-same : g.automaton ≡ h.automaton
-    automaton-same = is.automaton ∙ ap (automaton_of (network_symbols net)) (some-same (sym is.stands ∙ as.stands)) ∙ sym as.automaton
+    automaton-same = is.automaton ∙ ap (automaton_of (network_symbols net)) (some-same (sym is.stands ∙ other.stands)) ∙ sym other.automaton
 
     parts-same : (n : ℕ) → min_of checked.policy j ≡ n → (g.written ≡ h.written) × (g.queue ≡ h.queue)
     parts-same zero e =
         let free = λ (up : IsGuaranteed checked.policy j). never up e in
-        ((is.best_effort free).0 ∙ sym (as.best_effort free).0, (is.best_effort free).1 ∙ sym (as.best_effort free).1)
+        ((is.best_effort free).0 ∙ sym (other.best_effort free).0, (is.best_effort free).1 ∙ sym (other.best_effort free).1)
       where
         never : 0 < min_of checked.policy j → min_of checked.policy j ≡ 0 → ⊥
         never up e = omega (arith, up, e)
@@ -80,7 +80,7 @@ module _ (net : Network) (checked : CheckedPolicy) (ends : List Ends) (all : Are
         let word = at member.0.src ∷ at member.0.dst ∷ [] in
         let walk = get-map (λ e. at e.src ∷ at e.dst ∷ []) ends spot.0 member.0 spot.1 in
         let one = is.guaranteed spot.0 member.0 word spot.1 (sym member.2) walk in
-        let two = as.guaranteed spot.0 member.0 word spot.1 (sym member.2) walk in
+        let two = other.guaranteed spot.0 member.0 word spot.1 (sym member.2) walk in
         (one.0 ∙ ap (λ a. Some (written_walk_of a member.0 word)) automaton-same ∙ sym two.0, one.1 ∙ sym two.1)
 
     group-same : g ≡ h

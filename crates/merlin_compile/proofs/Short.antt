@@ -83,7 +83,7 @@ vertices-long : (symbols : List Symbol) (n : ℕ) → length (flat_map (λ x. ve
 vertices-long symbols n = flat-long (λ x. vertices_of x n) n symbols (λ x. let e = length-map (range_with_len 0 n) (vertex x) in let r = range-long 0 n in omega (arith, e, r))
 
 module _ (symbols : List Symbol) (n : ℕ) where
-  IsOver : Vertex → Type 0
+  abbrev IsOver : Vertex → Type 0
   IsOver v = In v.symbol symbols × (v.state < n)
 
   over-in : (v : Vertex) → IsOver v → In v (flat_map (λ x. vertices_of x n) symbols)

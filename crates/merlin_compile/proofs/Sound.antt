@@ -27,7 +27,7 @@ use Rattle.merlin_compile.proofs.Few.{none-some}
 
 -- Where all elements lead to values, the values stand at the same places.
 module _ {X Y : Type 0} (f : X → Option Y) where
-  LeadsAll : List X → Type 0
+  abbrev LeadsAll : List X → Type 0
   LeadsAll xs = (i : ℕ) (x : X) → slice_get xs i ≡ Some x → (y : Y) × (f x ≡ Some y)
 
   values-length : (xs : List X) → LeadsAll xs → length (filter_map f xs) ≡ length xs

@@ -1,5 +1,5 @@
 -- Which limits a policy passes does not depend on the tables of its automata: in the states that are reached they do the same.
-use Rattle.std.proofs.Common.{◌≡◌, ◌<◌, ◌↔◌, inl, inr, ℕ, zero, suc, List, [], ◌∷◌, ◌++◌, length, map, slice_get, Contains, Option, None, Some, Result, Ok, refl, sym, ◌∙◌, ap, ap₂, subst, arith}
+use Rattle.std.proofs.Common.{◌≡◌, ◌<◌, ◌+◌, ◌↔◌, inl, inr, ℕ, zero, suc, List, [], ◌∷◌, ◌++◌, length, map, slice_get, Contains, None, Some, Ok, refl, sym, ◌∙◌, ap, ap₂, subst}
 use Rattle.std.specs.List.{AllByRecursion, AllZip, enumerate_from, flat_map}
 use Rattle.merlin_model.specs.declared.policy.Path.{Path}
 use Rattle.merlin_model.specs.declared.policy.Symbol.{Symbol}
@@ -12,7 +12,7 @@ use Rattle.merlin_model.proofs.Ascending.{ascending-same}
 use Rattle.topology.specs.Symbols.{network_symbols}
 use Rattle.path_regex.specs.Normal.{normal_of}
 use Rattle.path_automaton.specs.States.{AreStates, followers}
-use Rattle.path_automaton.specs.Automata.{AutomatonTables, AreTablesOfPath, step, accepts, number_in}
+use Rattle.path_automaton.specs.Automata.{AutomatonTables, AreTablesOfPath, step, number_in}
 use Rattle.path_automaton.specs.Built.{IsBuilt}
 use Rattle.path_automaton.proofs.Noting.{with_all_new-keeps}
 use Rattle.path_automaton.proofs.Building.{get-below, below-get, one-place}
@@ -27,7 +27,7 @@ use Rattle.predicate_split.specs.declared.fault.TheConstants.{MAX_CELLS}
 use Rattle.policy_expansion.specs.declared.policy.Policy.{Policy as NamedPolicy}
 use Rattle.policy_check.specs.Numbered.{numbered_policy}
 use Rattle.policy_check.specs.Checked.{CheckedPolicy, IsCheckOf}
-use Rattle.configuration_model.specs.Groups.{AreGrouped, IsGroupOf, AreGroups}
+use Rattle.configuration_model.specs.Groups.{AreGrouped, IsGroupOf}
 use Rattle.configuration_model.specs.Pairs.{count_of_cells}
 use Rattle.openflow_rules.specs.declared.fault.RuleFault.{RuleFault}
 use Rattle.openflow_rules.specs.declared.fault.RuleFault.TheVariants.{TooManyTags, TooManyCells, TooManyEntries, OutOfMemory}
@@ -125,7 +125,7 @@ module _ (net : Network) where
   products-from n [] (h ∷ hs) z = absurd z
   products-from n (g ∷ gs) [] z = absurd z
   products-from n (g ∷ gs) (h ∷ hs) z =
-      ap₂ (λ xs ys. xs ++ ys) (ap (λ w. map (λ d. (n, d)) (destinations_of net w)) (z.0.free ∙ sym z.0.too)) (products-from (suc n) gs hs z.1)
+      ap₂ (λ xs ys. xs ++ ys) (ap (λ w. map (λ d. (n, d)) (destinations_of net w)) (z.0.free ∙ sym z.0.too)) (products-from (n + 1) gs hs z.1)
 
 zip-map : {X Y : Type 0} (R S : X → Y → Type 0) → ((x : X) (y : Y) → R x y → S x y) → (xs : List X) (ys : List Y) → AllZip R xs ys → AllZip S xs ys
 zip-map R S f [] [] z = tt
@@ -193,19 +193,19 @@ module _ (known : Numbering) (net : Network) (raw : NamedPolicy) (free : (i : �
     IsBare c j g = IsGroupOf policy symbols (statement_automata c) [] [] j g
 
     alike-groups : (j : ℕ) → j < length (paths_of policy) → (g h : Group) → IsBare checked j g → IsBare other j h → AreAlike net g h
-    alike-groups j lt g h is as =
+    alike-groups j lt g h is other_is =
         let one = table-of checked was j lt is.tables is.stands in
-        let two = table-of other has j lt has.tables has.stands in
+        let two = table-of other has j lt other_is.tables other_is.stands in
         let path : two.path ≡ one.path = some-same (sym two.has ∙ one.has) in
-        let built = subst (λ p. IsBuilt p symbols (Ok has.tables)) path two.built in
+        let built = subst (λ p. IsBuilt p symbols (Ok other_is.tables)) path two.built in
         let forms : built.0 ≡ one.built.0 = known.one one.path symbols built.0 one.built.0 built.1.states one.built.1.states in
         record {
           free = (is.best_effort (free j)).0;
-          too = (has.best_effort (free j)).0;
+          too = (other_is.best_effort (free j)).0;
           bound = length one.built.0;
           alike = subst (λ a. DoAlike net a h.automaton (length one.built.0)) (sym is.automaton)
-              (subst (λ b. DoAlike net (automaton_of symbols is.tables) b (length one.built.0)) (sym has.automaton)
-              (alike-tables known net one.path is.tables has.tables one.built.0 one.built.1 (subst (AreTablesOfPath one.path symbols has.tables) forms built.1)));
+              (subst (λ b. DoAlike net (automaton_of symbols is.tables) b (length one.built.0)) (sym other_is.automaton)
+              (alike-tables known net one.path is.tables other_is.tables one.built.0 one.built.1 (subst (AreTablesOfPath one.path symbols other_is.tables) forms built.1)));
         }
 
     alike-all : (leaders : List ℕ) (gs hs : List Group) → AllByRecursion (λ j. j < length (paths_of policy)) leaders → AllZip (IsBare checked) leaders gs → AllZip (IsBare other) leaders hs → AllZip (AreAlike net) gs hs
@@ -268,5 +268,5 @@ pub passes-as-well : Numbering → (net : Network) (raw : NamedPolicy) (checked 
     IsCheckOf net (network_symbols net) raw checked → length checked.automaton_numbers ≡ length (paths_of checked.policy) →
     IsCheckOf net (network_symbols net) raw other → length other.automaton_numbers ≡ length (paths_of other.policy) →
     IsWithinLimits net checked [] → PassesLimit net other [] fault → PassesLimit net checked [] fault
-passes-as-well known net raw checked other fault free is numbers as as_many within h =
-    passes-too known net raw free checked other (record { is_check = is; numbers = numbers }) (record { is_check = as; numbers = as_many }) within fault h
+passes-as-well known net raw checked other fault free is numbers other_is as_many within h =
+    passes-too known net raw free checked other (record { is_check = is; numbers = numbers }) (record { is_check = other_is; numbers = as_many }) within fault h

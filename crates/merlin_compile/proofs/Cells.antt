@@ -1,12 +1,12 @@
 -- Where all cells together are few, those of each two hosts are.
-use Rattle.std.proofs.Common.{◌≡◌, ◌≢◌, ◌≤◌, ◌+◌, ◌==◌, ℕ, inl, inr, Bool, true, false, cond, List, [], ◌∷◌, length, filter, Option, None, Some, refl, sym, ◌∙◌, ap, subst, arith}
+use Rattle.std.proofs.Common.{◌≡◌, ◌≤◌, ◌==◌, ℕ, inl, inr, Bool, true, false, cond, List, [], ◌∷◌, length, Option, None, Some, refl, ◌∙◌, ap, arith}
 use Rattle.std.specs.Prelude.{sum_by, is_some, IsSome}
 use Rattle.std.specs.List.{range_with_len}
 use Rattle.std.proofs.lemmas.Bool.{eqb-true}
 use Rattle.std.proofs.lemmas.List.Sums.{sum_by-cons}
 use Rattle.merlin_model.specs.declared.network.HostAddress.{HostAddress}
 use Rattle.merlin_model.specs.declared.network.LocationKind.{LocationKind}
-use Rattle.merlin_model.specs.Networks.{Network, IsHost, kind_of, address_at, address_of}
+use Rattle.merlin_model.specs.Networks.{Network, IsHost, kind_of, address_at}
 use Rattle.merlin_model.specs.Policies.{Policy}
 use Rattle.merlin_model.proofs.Members.{In, filter_in}
 use Rattle.rules_model.specs.Tables.{is_host_kind, all_hosts}
@@ -15,7 +15,6 @@ use Rattle.configuration_model.specs.Pairs.{pair_cells, cells_of_pair, count_of_
 use Rattle.queue_and_tc.specs.Shares.{HasFewCells}
 use Rattle.merlin_compile.proofs.Lines.{known-below}
 use Rattle.merlin_compile.proofs.Short.{range-in}
-use Rattle.merlin_compile.proofs.Few.{none-some}
 
 sum-over : {X : Type 0} (f : X → ℕ) (xs : List X) (x : X) → In x xs → f x ≤ sum_by f xs
 sum-over f [] x i = absurd i

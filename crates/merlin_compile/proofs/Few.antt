@@ -1,5 +1,5 @@
 -- Different elements of a list are no more than it has.
-use Rattle.std.proofs.Common.{◌≡◌, ◌≢◌, ◌≤◌, ◌⊎◌, inl, inr, ℕ, suc, List, [], ◌∷◌, ◌++◌, length, Option, None, Some, refl, sym, ap, subst, arith}
+use Rattle.std.proofs.Common.{◌≡◌, ◌≢◌, ◌≤◌, ◌⊎◌, inl, inr, suc, List, [], ◌∷◌, ◌++◌, length, None, Some, refl, sym, ap, subst, arith}
 use Rattle.std.specs.List.{AllZip}
 use Rattle.merlin_model.specs.Networks.{Pairwise, AreDifferent}
 use Rattle.merlin_model.proofs.Members.{In, in_append, in_append-left, in_append-right, all_in}

@@ -1,8 +1,7 @@
 -- The lines of hosts stand at hosts.
-use Rattle.std.proofs.Common.{◌≡◌, ◌<◌, ◌==◌, ℕ, suc, Bool, true, false, cond, List, [], ◌∷◌, ◌++◌, length, map, filter, refl, sym, subst}
+use Rattle.std.proofs.Common.{◌≡◌, ◌<◌, ℕ, suc, List, [], ◌∷◌, ◌++◌, length, map, refl, sym, subst}
 use Rattle.std.specs.List.{AllByRecursion, flat_map, list_any}
 use Rattle.merlin_model.specs.declared.config.HostLine.{HostLine}
-use Rattle.merlin_model.specs.declared.config.HostLine.TheVariants as line
 use Rattle.merlin_model.specs.Networks.{Network}
 use Rattle.merlin_model.specs.Policies.{Policy}
 use Rattle.merlin_model.proofs.Members.{all_both}

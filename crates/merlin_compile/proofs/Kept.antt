@@ -1,10 +1,8 @@
 -- A policy that keeps all rules breaks none.
-use Rattle.std.proofs.Common.{◌≡◌, ◌≤◌, ◌<◌, ◌+◌, ℕ, List, [], Some, slice_get, refl, sym, ◌∙◌, ap, arith}
-use Rattle.std.specs.List.{AllByRecursion}
+use Rattle.std.proofs.Common.{◌≡◌, ◌≤◌, ◌+◌, ℕ, List, [], Some, slice_get, refl, sym, ◌∙◌, ap, arith}
 use Rattle.merlin_model.specs.declared.policy.Symbol.{Symbol}
 use Rattle.merlin_model.specs.Networks.{Network}
 use Rattle.path_automaton.specs.declared.exploring.TheConstants.{MAX_STATES}
-use Rattle.predicate_split.specs.declared.fault.TheConstants.{MAX_CLASSES}
 use Rattle.product_graph.proofs.Lists.{all-get}
 use Rattle.policy_expansion.specs.declared.policy.Policy.{Policy as NamedPolicy}
 use Rattle.policy_check.specs.declared.fault.CheckFault.{CheckFault}

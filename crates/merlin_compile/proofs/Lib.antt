@@ -3,7 +3,9 @@ pub mod Sound
 pub mod States
 pub mod Kept
 pub mod Stood
+pub mod Groups
 pub mod Planned
+pub mod One
 pub mod Free
 pub mod Lines
 pub mod HostLines

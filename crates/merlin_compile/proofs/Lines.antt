@@ -1,5 +1,5 @@
 -- The rules, `process` lines and queues of what is made name locations and functions of the network.
-use Rattle.std.proofs.Common.{◌≡◌, ◌<◌, ◌==◌, ◌≤◌, ◌+◌, ◌⊎◌, ℕ, zero, suc, nat_lt, inl, inr, Bool, true, false, cond, List, [], ◌∷◌, ◌++◌, length, map, filter, slice_get, Contains, Option, None, Some, refl, sym, ◌∙◌, ap, subst, arith}
+use Rattle.std.proofs.Common.{◌≡◌, ◌<◌, ◌==◌, ◌+◌, ℕ, zero, suc, nat_lt, inl, inr, Bool, true, false, cond, List, [], ◌∷◌, ◌++◌, length, map, filter, slice_get, Contains, Option, None, Some, refl, sym, subst, arith}
 use Rattle.std.specs.Prelude.{MatchOption, ⊤, IsSome}
 use Rattle.std.specs.Option.{option_map, option_to_list}
 use Rattle.std.specs.List.{AllByRecursion, flat_map, range_with_len}
@@ -16,13 +16,12 @@ use Rattle.merlin_model.specs.declared.policy.Symbol.{Symbol}
 use Rattle.merlin_model.specs.Networks.{Network, IsNetwork, IsHost, JoinsLocations, kind_of, address_at, places_of, directed_links}
 use Rattle.merlin_model.specs.Words.{at, IsSymbol, functions_of, crossings}
 use Rattle.merlin_model.specs.Policies.{Policy}
-use Rattle.merlin_model.proofs.Members.{In, in_from, in_to, in_map, in_filter, in_flat_map, in_append, all_in, all_both}
+use Rattle.merlin_model.proofs.Members.{In, in_to, in_filter, all_in, all_both}
 use Rattle.path_automaton.proofs.Building.{get-below}
 use Rattle.product_graph.proofs.Lists.{all-map}
-use Rattle.rules_model.specs.Products.{SymbolAutomaton, Vertex, loc_of, start_of, LeadsTo, LeadsToEnd, IsInTree, TreeFollows, WrittenWalk, IsWrittenWalk, AreWrittenWalks, Group, IsFollowedBy, FollowsIn, FollowsAt, Follows}
-use Rattle.rules_model.specs.Tables.{functions_here, TableRow, IngressEntry, Plan, IsTableRow, IsPlan, rules_of_row, rules_by_tag, tag_rule, back_rule, cell_rule, last_rule, process_of, is_middlebox_kind, is_switch_kind, locations_of_kind, all_switches, rules_at, table_rules, table_processes}
+use Rattle.rules_model.specs.Products.{SymbolAutomaton, Vertex, loc_of, start_of, LeadsTo, LeadsToEnd, IsInTree, WrittenWalk, IsWrittenWalk, AreWrittenWalks, Group, IsFollowedBy, FollowsIn, FollowsAt}
+use Rattle.rules_model.specs.Tables.{functions_here, TableRow, Plan, IsPlan, rules_of_row, rules_by_tag, cell_rule, last_rule, process_of, is_middlebox_kind, is_switch_kind, locations_of_kind, all_switches, rules_at, table_rules, table_processes}
 use Rattle.configuration_model.specs.Queues.{queue_line, queues_on, reserved_queues}
-use Rattle.configuration_model.proofs.Lists.{all_from}
 use Rattle.merlin_compile.proofs.Few.{none-some}
 
 -- Lists.

@@ -1,5 +1,5 @@
 -- What is made is over its network.
-use Rattle.std.proofs.Common.{◌≡◌, ◌<◌, ℕ, List, length, All, sym, subst}
+use Rattle.std.proofs.Common.{◌≡◌, ◌<◌, List, length, All, sym, subst}
 use Rattle.std.specs.List.{AllByRecursion}
 use Rattle.std.proofs.lemmas.List.Elements.{All-from_recursion}
 use Rattle.merlin_model.specs.declared.policy.Symbol.{Symbol}

@@ -1,25 +1,25 @@
 -- Walks without a repeated vertex are short: no longer than there are symbols and states.
-use Rattle.std.proofs.Common.{◌≡◌, ◌≤◌, ◌<◌, ◌+◌, ◌*◌, ◌^◌, ℕ, zero, suc, inl, inr, Bool, true, false, cond, List, [], ◌∷◌, ◌++◌, length, map, filter, slice_get, Contains, Option, Some, refl, sym, ◌∙◌, ap, subst, arith}
+use Rattle.std.proofs.Common.{◌≡◌, ◌≤◌, ◌<◌, ◌+◌, ◌*◌, ◌⊎◌, ℕ, zero, suc, inl, inr, Bool, true, false, cond, List, [], ◌∷◌, length, map, filter, slice_get, Some, refl, sym, ap, subst, arith}
+use Rattle.std.proofs.Math.Nat.{suc-mul}
 use Rattle.std.specs.List.{AllByRecursion, enumerate_from, flat_map, range_with_len}
 use Rattle.std.proofs.lemmas.List.{length-append, length-map}
 use Rattle.merlin_model.specs.declared.network.FnDecl.{FnDecl}
 use Rattle.merlin_model.specs.declared.policy.Ends.{Ends}
 use Rattle.merlin_model.specs.declared.policy.Symbol.{Symbol}
 use Rattle.merlin_model.specs.Networks.{Network}
-use Rattle.merlin_model.specs.Words.{at, IsSymbol, IsWalk}
-use Rattle.merlin_model.proofs.Members.{In, in_from, map_in, flat_map_in}
+use Rattle.merlin_model.specs.Words.{at}
+use Rattle.merlin_model.proofs.Members.{In, map_in, flat_map_in, all_in}
 use Rattle.path_regex.specs.Normal.{normal_of}
-use Rattle.path_automaton.specs.declared.exploring.TheConstants.{MAX_STATES}
-use Rattle.path_automaton.specs.States.{with_all_new, followers}
+use Rattle.path_automaton.specs.States.{followers}
 use Rattle.path_automaton.specs.Automata.{AutomatonTables, AreTablesOfPath, step, number_in}
 use Rattle.path_automaton.proofs.Noting.{with_all_new-keeps}
 use Rattle.path_automaton.proofs.Listed.{number-at}
 use Rattle.path_automaton.proofs.Building.{get-below, below-get}
-use Rattle.topology_rules.specs.declared.limits.TheConstants.{MAX_LOCATIONS, MAX_FUNCTIONS}
 use Rattle.topology.specs.Symbols.{is_placed_at, functions_placed_at, at_with, symbols_at, network_symbols}
 use Rattle.rules_model.specs.Products.{SymbolAutomaton, Vertex, start_of}
 use Rattle.product_graph.specs.Products.{automaton_of}
-use Rattle.configuration_model.specs.Groups.{vertices_after, written_after, HasDifferentVertices}
+use Rattle.product_graph.proofs.Lists.{lt-or-ge}
+use Rattle.configuration_model.specs.Groups.{vertices_after, HasDifferentVertices}
 use Rattle.merlin_compile.proofs.Few.{few-different}
 
 -- How many there are.
@@ -30,7 +30,7 @@ flat-long f b (x ∷ xs) each =
     let first = each x in
     let rest = flat-long f b xs each in
     let all = length-append (f x) (flat_map f xs) in
-    let product : suc (length xs) * b ≡ b + length xs * b = refl in
+    let product = suc-mul (length xs) b in
     omega (arith, first, rest, all, product)
 
 filter-long : {X : Type 0} (t : X → Bool) (xs : List X) → length (filter t xs) ≤ length xs
@@ -45,17 +45,24 @@ enumerate-long : {X : Type 0} (n : ℕ) (xs : List X) → length (enumerate_from
 enumerate-long n [] = refl
 enumerate-long n (x ∷ xs) = ap suc (enumerate-long (n + 1) xs)
 
+same-or-above : (a k : ℕ) → a ≤ k → (k ≡ a) ⊎ (a < k)
+same-or-above a k le = by (lt-or-ge a k)
+  where
+    by : (a < k) ⊎ (k ≤ a) → (k ≡ a) ⊎ (a < k)
+    by (inl lt) = inr lt
+    by (inr ge) = inl (omega (arith, le, ge))
+
 range-long : (a n : ℕ) → length (range_with_len a n) ≡ n
 range-long a zero = refl
 range-long a (suc n) = ap suc (range-long (a + 1) n)
 
 pub range-in : (a n k : ℕ) → a ≤ k → k < a + n → In k (range_with_len a n)
 range-in a zero k from to = absurd (omega (arith, from, to))
-range-in a (suc n) k from to = by (lt-or-same a k from)
+range-in a (suc n) k from to = by (same-or-above a k from) (λ lt. range-in (a + 1) n k (omega (arith, lt)) (omega (arith, to)))
   where
-    by : (k ≡ a) ⊎ (a < k) → In k (range_with_len a (suc n))
-    by (inl same) = inl same
-    by (inr lt) = inr (range-in (a + 1) n k (omega (arith, lt)) (omega (arith, to)))
+    by : (k ≡ a) ⊎ (a < k) → (a < k → In k (range_with_len (a + 1) n)) → In k (range_with_len a (suc n))
+    by (inl same) rest = inl same
+    by (inr lt) rest = inr (rest lt)
 
 symbols-long : (functions : List FnDecl) (loc : ℕ) → length (symbols_at functions loc) ≤ length functions + 1
 symbols-long functions loc =
@@ -66,7 +73,7 @@ symbols-long functions loc =
     let symbols = length-map (functions_placed_at functions loc) (at_with loc) in
     omega (arith, few, all, numbers, symbols)
 
-network-long : (net : Network) → length (network_symbols net) ≤ length net.locations * (length net.functions + 1)
+pub network-long : (net : Network) → length (network_symbols net) ≤ length net.locations * (length net.functions + 1)
 network-long net =
     let all = flat-long (symbols_at net.functions) (length net.functions + 1) (range_with_len 0 (length net.locations)) (symbols-long net.functions) in
     subst (λ n. length (network_symbols net) ≤ n * (length net.functions + 1)) (range-long 0 (length net.locations)) all

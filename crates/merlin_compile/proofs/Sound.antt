@@ -3,12 +3,11 @@ use Rattle.std.proofs.Common.{◌≡◌, ◌↔◌, ◌<◌, ◌++◌, ℕ, zero
 use Rattle.std.specs.Prelude.{filter_map, option_and_then}
 use Rattle.std.specs.Option.{option_map, option_to_list}
 use Rattle.std.specs.List.{AllByRecursion, cons_option}
-use Rattle.merlin_model.specs.declared.policy.Path.{Path}
 use Rattle.merlin_model.specs.declared.policy.Symbol.{Symbol}
 use Rattle.merlin_model.specs.Predicates.{IsPred}
 use Rattle.merlin_model.specs.Networks.{Network}
 use Rattle.merlin_model.specs.Words.{IsSymbol}
-use Rattle.merlin_model.specs.Policies.{Policy, Statement, paths_of}
+use Rattle.merlin_model.specs.Policies.{Statement, paths_of}
 use Rattle.path_regex.specs.Functions.{HasNoFunctionUnderNot}
 use Rattle.path_automaton.specs.Automata.{AutomatonTables, AcceptsWordsOf}
 use Rattle.path_automaton.proofs.Building.{below-get, get-below}
@@ -19,9 +18,9 @@ use Rattle.policy_grammar.specs.NumberedPaths.{numbered}
 use Rattle.policy_expansion.specs.declared.policy.Statement.{Statement as NamedStatement}
 use Rattle.policy_expansion.specs.declared.policy.Policy.{Policy as NamedPolicy}
 use Rattle.policy_names.specs.Names.{meaning_of, name_faults, raw_paths}
-use Rattle.policy_check.specs.Numbered.{numbered_statement, numbered_policy}
+use Rattle.policy_check.specs.Numbered.{numbered_statement}
 use Rattle.policy_check.specs.Checked.{CheckedPolicy, IsSoundPolicy, HasAutomata, IsCheckOf, automaton_of_statement}
-use Rattle.configuration_model.specs.Checked.{IsChecked, preds_of}
+use Rattle.configuration_model.specs.Checked.{IsChecked}
 use Rattle.openflow_rules.specs.Planning.{statement_automata}
 use Rattle.merlin_compile.proofs.Few.{none-some}
 

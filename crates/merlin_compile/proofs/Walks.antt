@@ -1,8 +1,8 @@
 -- The walks of an assignment without repeated vertices are short.
-use Rattle.std.proofs.Common.{◌≡◌, ◌≤◌, ◌<◌, ◌+◌, ◌*◌, ◌^◌, ℕ, List, [], ◌∷◌, ◌++◌, length, map, slice_get, Some, Vec, refl, sym, ◌∙◌, ap, subst, arith}
+use Rattle.std.proofs.Common.{◌≡◌, ◌≤◌, ◌<◌, ◌+◌, ◌*◌, ◌^◌, ℕ, List, length, map, slice_get, Some, Vec, subst, arith}
 use Rattle.std.specs.declared.alloc.Global.{Global}
 use Rattle.std.specs.List.{AllByRecursion}
-use Rattle.std.proofs.Math.Nat.{mul-le-mul_left, mul-le-mul_right}
+use Rattle.std.proofs.Math.Nat.{mul-le-mul_right}
 use Rattle.merlin_model.specs.declared.policy.Ends.{Ends}
 use Rattle.merlin_model.specs.declared.policy.Symbol.{Symbol}
 use Rattle.merlin_model.specs.Networks.{Network}
@@ -10,7 +10,6 @@ use Rattle.merlin_model.specs.Words.{at, IsSymbol, IsWalk}
 use Rattle.merlin_model.specs.Policies.{paths_of, IsOnPath}
 use Rattle.merlin_model.specs.Assignments.{IsAssignment}
 use Rattle.merlin_model.proofs.Members.{In, in_from}
-use Rattle.topology_rules.specs.declared.limits.TheConstants.{MAX_LOCATIONS, MAX_FUNCTIONS}
 use Rattle.topology.specs.Lawful.{IsTopologyNetwork}
 use Rattle.topology.specs.Symbols.{network_symbols}
 use Rattle.path_automaton.proofs.Building.{get-map, all-from}

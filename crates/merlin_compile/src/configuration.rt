@@ -15,7 +15,7 @@ ghost use Rattle.configuration_model.specs.Groups.{HaveDifferentVertices};
 ghost use Rattle.configuration_model.specs.Compiled.{IsMade};
 ghost use Rattle.openflow_rules.specs.Planning.{statement_automata, IsWithinLimits};
 ghost use Rattle.queue_and_tc.specs.Reserved.{IsShort};
-ghost use Rattle.merlin_compile.specs.Parts.{AreHostLines};
+ghost use Rattle.merlin_compile.specs.Parts.{AreHostLines, HasLinesFor};
 
 use crate::laws;
 use crate::stub::{sources, tables};
@@ -99,6 +99,8 @@ pub fn configuration_of(
     ensures made { IfOk result (IsMade net.now checked.now.policy ends.now
         (map (λ w. w.items) walks.now)) }
     ensures lines { IfOk result (IsConfigOver net.now) }
+    ensures exactly { IfOk result (HasLinesFor net.now checked.now.policy
+        (statement_automata checked.now) ends.now (map (λ w. w.items) walks.now)) }
 {
     laws::made_lines_are_over_the_network();
     queue_and_tc::laws::pair_cells_name_owners();

@@ -5,7 +5,7 @@ ghost use Rattle.merlin_model.specs.declared.config.Config.{Config};
 ghost use Rattle.merlin_model.specs.declared.policy.Ends.{Ends};
 ghost use Rattle.merlin_model.specs.declared.policy.Objective.{Objective};
 ghost use Rattle.merlin_model.specs.declared.policy.Symbol.{Symbol};
-ghost use Rattle.merlin_model.specs.Networks.{Network};
+ghost use Rattle.merlin_model.specs.Networks.{Network, IsNetwork};
 ghost use Rattle.merlin_model.specs.Policies.{Policy, paths_of};
 ghost use Rattle.merlin_model.specs.Rates.{IsGuaranteed};
 ghost use Rattle.merlin_model.specs.Assignments.{AreAllEnds, IsAssignment, IsFeasible, IsLeast};
@@ -29,6 +29,7 @@ ghost use Rattle.configuration_model.specs.Compiled.{IsMade};
 ghost use Rattle.openflow_rules.specs.declared.fault.RuleFault.{RuleFault};
 ghost use Rattle.openflow_rules.specs.declared.fault.RuleFault.TheVariants as rule_fault;
 ghost use Rattle.openflow_rules.specs.Planning.{statement_automata, IsWithinLimits, PassesLimit};
+ghost use Rattle.merlin_compile.specs.Parts.{HasLinesFor};
 
 /// A policy that was checked has what configurations rest on: one automaton for each statement, in order, which accepts the words of
 /// its path.
@@ -69,6 +70,21 @@ pub fn made_lines_are_over_the_network()
         (config : Config) → IsMade net policy ends walks config → IsConfigOver net config }
 {
     configuration_model::laws::made_is_compiled();
+}
+
+/// The lines for a policy with given automata and walks are determined.
+pub fn one_configuration()
+    ensures { (net : Network) (policy : Policy) (automata : List AutomatonTables)
+        (ends : List Ends) (walks : List (List Symbol)) (config other : Config) →
+        IsNetwork net → IsChecked net policy (network_symbols net) automata →
+        AreAllEnds net policy ends → IsAssignment net policy ends walks →
+        HaveDifferentVertices policy (network_symbols net) automata ends walks →
+        HasLinesFor net policy automata ends walks config →
+        HasLinesFor net policy automata ends walks other → config ≡ other }
+{
+    queue_and_tc::laws::pair_cells_name_owners();
+    configuration_model::laws::made_is_compiled();
+    rules_model::laws::one_plan();
 }
 
 /// Where nothing is guaranteed there are no ends and no walks, and what is made with none delivers packets, keeps caps and meets the

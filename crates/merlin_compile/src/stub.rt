@@ -14,11 +14,7 @@ use openflow_rules::RulePlan;
 use rule_tables::Tables;
 use std::alloc::Global;
 
-pub fn tables(
-    alloc: Global,
-    plan: &RulePlan,
-    walks: &[Vec<Symbol>],
-) -> Result<Tables, OutOfMemory>
+pub fn tables(alloc: Global, plan: &RulePlan, walks: &[Vec<Symbol>]) -> Result<Tables, OutOfMemory>
     requires assigned { IsAssignment plan.now.net plan.now.checked.policy plan.now.ends
         (map (λ w. w.items) walks.now) }
     requires simple { HaveDifferentVertices plan.now.checked.policy

@@ -1,5 +1,5 @@
 -- What is configured, step by step.
-use Rattle.std.proofs.Common.{◌≡◌, ◌≤◌, ◌<◌, ℕ, List, [], ◌∷◌, length, map, Result, Ok, Err, IfOk, IfErr, refl, sym, ◌∙◌, ap, subst, arith}
+use Rattle.std.proofs.Common.{◌==◌, false, true, ◌≡◌, ◌≤◌, ◌<◌, ℕ, List, [], ◌∷◌, length, map, Result, Ok, Err, IfOk, IfErr, refl, sym, ◌∙◌, ap, subst, arith}
 use Rattle.merlin_model.specs.declared.policy.Ends.{Ends}
 use Rattle.merlin_model.specs.declared.policy.Objective.{Objective}
 use Rattle.merlin_model.specs.declared.config.Config.{Config}
@@ -14,7 +14,9 @@ use Rattle.policy_check.specs.declared.guarantees.TheConstants.{MAX_GUARANTEES}
 use Rattle.policy_check.specs.Numbered.{numbered_policy}
 use Rattle.policy_check.specs.Checked.{CheckedPolicy}
 use Rattle.policy_parser.specs.Policies.{IsPolicyText}
+use Rattle.openflow_rules.specs.Planning.{statement_automata}
 use Rattle.configuration_model.specs.Compiled.{IsMade}
+use Rattle.merlin_compile.specs.Parts.{HasLinesFor}
 use Rattle.merlin.specs.declared.compiler.Compiled.{Compiled}
 use Rattle.merlin.specs.declared.compiler.EarlyFault.{EarlyFault}
 use Rattle.merlin.specs.declared.compiler.EarlyFault.TheVariants as early
@@ -26,8 +28,11 @@ use Rattle.merlin.specs.Configuring.{IsMadeWithin, IsOutsideLimits, IsMadeUnguar
 pub nothing-without : (net : Network) (policy : NumberedPolicy) → AreAllEnds net policy [] → GuaranteesNothing policy
 nothing-without net policy all i h = in_from [] i (all.all i h)
 
-pub something-with : (net : Network) (policy : NumberedPolicy) (ends : List Ends) → AreAllEnds net policy ends → ¬ (length ends ≡ 0) → GuaranteesSomething policy
-something-with net policy [] all some = absurd (some refl)
+false-true : false ≡ true → ⊥
+false-true e = cc
+
+pub something-with : (net : Network) (policy : NumberedPolicy) (ends : List Ends) → AreAllEnds net policy ends → false ≡ (length ends == 0) → GuaranteesSomething policy
+something-with net policy [] all some = absurd (false-true some)
 something-with net policy (e ∷ ends) all some = (e.statement, all.each.0.guaranteed)
 
 -- Each step says more of what is made, and of why nothing is.
@@ -78,6 +83,11 @@ module _ (net : Network) (checked : CheckedPolicy) where
             limits = record { checked = checked; was = was; within = h.made.made.within };
           };
           made = subst (λ p. IsMade net p [] [] config) same h.made.made.made;
+          lines = record {
+            checked = checked;
+            was = was;
+            lines = subst (λ p. HasLinesFor net p (statement_automata checked) [] [] config) same h.made.made.lines;
+          };
           over = h.made.made.over;
         }
 
@@ -128,6 +138,7 @@ module _ (kept : Kept) (raw : Policy) (p t : List ℕ) (stands : IsPolicyText p 
         caps = kept.caps c.net policy c.config made;
         classes = kept.classes c.net policy c.config made;
         made = made;
+        lines = h.configured.lines;
         least = kept.least c.net policy objective;
         value_is = h.value_is policy;
       }

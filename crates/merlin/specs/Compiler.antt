@@ -26,8 +26,9 @@ use Rattle.topology_rules.specs.declared.fault.NetFault.TheVariants as net_fault
 use Rattle.topology_rules.specs.Faults.{IsTopology, Refuses as IsRefusedTopology}
 use Rattle.openflow_rules.specs.declared.fault.RuleFault.{RuleFault}
 use Rattle.openflow_rules.specs.declared.fault.RuleFault.TheVariants as rule_faults
-use Rattle.openflow_rules.specs.Planning.{IsWithinLimits, PassesLimit}
+use Rattle.openflow_rules.specs.Planning.{statement_automata, IsWithinLimits, PassesLimit}
 use Rattle.configuration_model.specs.Compiled.{IsMade}
+use Rattle.merlin_compile.specs.Parts.{HasLinesFor}
 use Rattle.merlin.specs.declared.compiler.Compiled.{Compiled}
 use Rattle.merlin.specs.declared.compiler.EarlyFault.{EarlyFault}
 use Rattle.merlin.specs.declared.compiler.EarlyFault.TheVariants as early
@@ -85,6 +86,13 @@ pub record IsCompilable (raw : Policy) (net : Network) : Type 0 where
   pub best_effort : IsBestEffort net raw
   pub limits : KeepsLimits net raw
 
+-- The configuration has exactly the lines of the policy: the rules and process lines of its groups
+-- over the cells of each pair of hosts, and what hosts do with what they send.
+pub record HasExactLines (net : Network) (raw : Policy) (config : Config) : Type 0 where
+  pub checked : CheckedPolicy
+  pub was : WasChecked net raw checked
+  pub lines : HasLinesFor net (numbered_policy net raw) (statement_automata checked) [] [] config
+
 -- what two texts stand for compiles
 pub record AreCompilable (policy topology : List ℕ) (net : Network) : Type 0 where
   pub raw : Policy
@@ -118,8 +126,9 @@ pub record IsCompiledFrom (policy_text topology_text : List ℕ) (objective : Ob
   -- classes, and each class has one line.
   pub caps : KeepsCaps compiled.net policy ends [] compiled.config
   pub classes : HasOneLinePerClass compiled.config
-  -- the lines are those of the cells, groups, sink trees and shares of the policy
+  -- it is made of the cells, groups, sink trees and shares of the policy, and of nothing else
   pub made : IsMade compiled.net policy ends [] compiled.config
+  pub lines : HasExactLines compiled.net input.raw compiled.config
   -- the value is that of what is reserved, and the least
   pub least : IsLeast compiled.net policy ends objective []
   pub value_is : compiled.value ≡ value_of compiled.net policy ends objective []

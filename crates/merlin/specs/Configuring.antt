@@ -11,12 +11,13 @@ use Rattle.policy_check.specs.Checked.{CheckedPolicy, IsCheckOf}
 use Rattle.topology.specs.Symbols.{network_symbols}
 use Rattle.topology_rules.specs.Faults.{IsTopology}
 use Rattle.config_text.specs.Lines.{IsConfigOver}
-use Rattle.openflow_rules.specs.Planning.{IsWithinLimits, PassesLimit}
+use Rattle.openflow_rules.specs.Planning.{statement_automata, IsWithinLimits, PassesLimit}
 use Rattle.configuration_model.specs.Compiled.{IsMade}
+use Rattle.merlin_compile.specs.Parts.{HasLinesFor}
 use Rattle.merlin.specs.declared.compiler.Compiled.{Compiled}
 use Rattle.merlin.specs.declared.compiler.EarlyFault.{EarlyFault}
 use Rattle.merlin.specs.declared.compiler.EarlyFault.TheVariants as early
-use Rattle.merlin.specs.Compiler.{WasChecked, HasAllEnds, GuaranteesNothing, GuaranteesSomething, IsCompilable, RefusesEnds}
+use Rattle.merlin.specs.Compiler.{WasChecked, HasAllEnds, GuaranteesNothing, GuaranteesSomething, IsCompilable, HasExactLines, RefusesEnds}
 
 abbrev pub IsAnyCheck : Network → CheckedPolicy → Type 0
 IsAnyCheck net checked = (raw : Policy) × WasChecked net raw checked
@@ -30,6 +31,7 @@ IsCheckOfSome net checked = (raw : Policy) × IsCheckOf net (network_symbols net
 pub record IsMadeWithin (net : Network) (checked : CheckedPolicy) (config : Config) : Type 0 where
   pub within : IsWithinLimits net checked []
   pub made : IsMade net checked.policy [] [] config
+  pub lines : HasLinesFor net checked.policy (statement_automata checked) [] [] config
   pub over : IsConfigOver net config
 
 abbrev pub IsOutsideLimits : Network → CheckedPolicy → EarlyFault → Type 0
@@ -68,6 +70,7 @@ IsUnmadeWithEnds net checked fault = ⊥
 pub record IsConfigured (net : Network) (raw : Policy) (config : Config) : Type 0 where
   pub compiles : IsCompilable raw net
   pub made : IsMade net (numbered_policy net raw) [] [] config
+  pub lines : HasExactLines net raw config
   pub over : IsConfigOver net config
 
 -- The policy compiles over the topology, for the objective, to this.

@@ -108,10 +108,10 @@ fn empty_value(net: &Topology, objective: Objective) -> Value
 
 // What compiles to a configuration, with the value of reserving nothing.
 fn compiled_with(net: Topology, objective: Objective, config: Config) -> Compiled
-    ensures net { result.net ≡ net.entry }
+    ensures net { result.net ≡ net }
     ensures asked { result.objective ≡ objective }
     ensures value { (policy : Policy) →
-        result.value ≡ value_of net.entry policy [] objective [] }
+        result.value ≡ value_of net policy [] objective [] }
     ensures config { result.config ≡ config }
 {
     let value = empty_value(&net, objective);

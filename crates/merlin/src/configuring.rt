@@ -1,7 +1,10 @@
 //! The configuration of a policy over a network, or why there is none.
 ghost use Rattle.std.specs.Prelude.{◌≡◌, ◌≤◌, [], length, IfErr, IfOk};
 ghost use Rattle.merlin_model.specs.Assignments.{AreAllEnds};
+ghost use Rattle.topology.specs.Symbols.{network_symbols};
+ghost use Rattle.policy_expansion.specs.declared.policy.Policy.{Policy as NamedPolicy};
 ghost use Rattle.policy_parser.specs.Policies.{IsParsed};
+ghost use Rattle.policy_check.specs.Checked.{IsCheckOf};
 ghost use Rattle.policy_check.specs.declared.guarantees.TheConstants.{MAX_GUARANTEES};
 ghost use Rattle.openflow_rules.specs.Planning.{IsWithinLimits};
 ghost use Rattle.merlin.specs.Compiler.{IsRefusedEnds, RefusesPolicy};
@@ -112,15 +115,17 @@ fn configuration_for(
     }
 }
 
-// The same, with what is known of each checked policy.
+// The same for the policy that was checked.
 fn configuration_of_checked(
     alloc: Global,
     net: &Topology,
     checked: &Checked,
 ) -> Result<Config, EarlyFault>
     requires { IsCheckOfSome net.now checked.now }
-    ensures ok { IfOk result (IsMadeWithEnds net.now checked.now) }
-    ensures err { IfErr result (IsUnmadeWithEnds net.now checked.now) }
+    ensures ok { (raw : NamedPolicy) → IsCheckOf net.now (network_symbols net.now) raw checked.now →
+        IfOk result (IsConfigured net.now raw) }
+    ensures err { (raw : NamedPolicy) → IsCheckOf net.now (network_symbols net.now) raw checked.now
+        → IfErr result (RefusesPolicy net.now raw) }
 {
     let _ = checked.statements();
     let _ = checked.automata();

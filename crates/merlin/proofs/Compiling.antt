@@ -1,6 +1,6 @@
 -- What is replied to a policy and a topology: a text stands for one policy or is refused, and not
 -- both.
-use Rattle.std.proofs.Common.{◌≡◌, ◌≢◌, ◌≤◌, inl, inr, List, [], ◌∷◌, length, ℕ, Result, Ok, Err, IfErr, refl, sym, ◌∙◌, ap, subst, unwrap_or}
+use Rattle.std.proofs.Common.{◌≡◌, ◌≢◌, ◌≤◌, inl, inr, List, [], ◌∷◌, length, ℕ, Result, Ok, Err, IfErr, refl, sym, ap, subst, unwrap_or}
 use Rattle.std.specs.Prelude.{Some}
 use Rattle.merlin_base.specs.declared.status.Status.TheVariants as status
 use Rattle.merlin_model.specs.Networks.{Network}

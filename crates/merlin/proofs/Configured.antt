@@ -1,16 +1,14 @@
 -- What is configured, step by step.
-use Rattle.std.proofs.Common.{◌==◌, false, true, ◌≡◌, ◌≤◌, ◌<◌, ℕ, List, [], ◌∷◌, length, map, Result, Ok, Err, IfOk, IfErr, refl, sym, ◌∙◌, ap, subst, arith}
+use Rattle.std.proofs.Common.{◌==◌, false, true, ◌≡◌, ℕ, List, [], ◌∷◌, length, Result, Ok, Err, IfOk, IfErr, refl, subst}
 use Rattle.merlin_model.specs.declared.policy.Ends.{Ends}
 use Rattle.merlin_model.specs.declared.policy.Objective.{Objective}
 use Rattle.merlin_model.specs.declared.config.Config.{Config}
 use Rattle.merlin_model.specs.Networks.{Network}
 use Rattle.merlin_model.specs.Policies.{Policy as NumberedPolicy}
-use Rattle.merlin_model.specs.Rates.{IsGuaranteed}
 use Rattle.merlin_model.specs.Assignments.{AreAllEnds, IsLeast}
 use Rattle.merlin_model.specs.Headline.{DeliversPackets, MeetsGuarantees, KeepsCaps, HasOneLinePerClass}
 use Rattle.merlin_model.proofs.Members.{in_from}
 use Rattle.policy_expansion.specs.declared.policy.Policy.{Policy}
-use Rattle.policy_check.specs.declared.guarantees.TheConstants.{MAX_GUARANTEES}
 use Rattle.policy_check.specs.Numbered.{numbered_policy}
 use Rattle.policy_check.specs.Checked.{CheckedPolicy}
 use Rattle.policy_parser.specs.Policies.{IsPolicyText}
@@ -20,7 +18,7 @@ use Rattle.merlin_compile.specs.Parts.{HasLinesFor}
 use Rattle.merlin.specs.declared.compiler.Compiled.{Compiled}
 use Rattle.merlin.specs.declared.compiler.EarlyFault.{EarlyFault}
 use Rattle.merlin.specs.declared.compiler.EarlyFault.TheVariants as early
-use Rattle.merlin.specs.Compiler.{WasChecked, HasAllEnds, GuaranteesNothing, GuaranteesSomething, IsAccepted, IsRefusedEnds, RefusesEnds, RefusesPolicy, IsCompiledFrom}
+use Rattle.merlin.specs.Compiler.{WasChecked, HasAllEnds, GuaranteesNothing, GuaranteesSomething, IsAccepted, RefusesEnds, RefusesPolicy, IsCompiledFrom}
 use Rattle.merlin.specs.Configuring.{IsMadeWithin, IsOutsideLimits, IsMadeUnguaranteed, IsUnmade, IsMadeWithEnds, IsUnmadeWithEnds, IsConfigured, IsCompiledOver}
 
 -- Without ends nothing is guaranteed, and with some something is.

@@ -1,5 +1,4 @@
 use Rattle.std.proofs.lemmas.Result.{IfOk-weaker}
-use Rattle.config_text.specs.Lines.{IsConfigOver}
 use Rattle.merlin.proofs.Compiling.{result_over}
 use Rattle.merlin.proofs.Configured.{compiled-from}
 use Rattle.merlin.proofs.compiler.compile_policy.Goals as goal

@@ -1,4 +1,4 @@
-use Rattle.merlin.proofs.Compiling.{Known, Compiles-done, IsCompileReply-compiles, IsCompileReply-one}
+use Rattle.merlin.proofs.Compiling.{Compiles-done, IsCompileReply-compiles, IsCompileReply-one}
 use Rattle.merlin.proofs.laws.compile_replies.Goals as goal
 
 pub returns-clause-done : goal.returns-clause-done

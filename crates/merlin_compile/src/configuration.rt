@@ -18,7 +18,6 @@ ghost use Rattle.queue_and_tc.specs.Reserved.{IsShort};
 ghost use Rattle.merlin_compile.specs.Parts.{AreHostLines, HasLinesFor};
 
 use crate::laws;
-use crate::stub::{sources, tables};
 use merlin_model::OutOfMemory;
 use merlin_model::config::{Config, HostLine, Queue};
 use merlin_model::policy::{Ends, Symbol};
@@ -66,8 +65,7 @@ fn host_lines_of(
     ensures { IfOk result (AreHostLines net.now checked.now.policy) }
 {
     let _sound = checked.statements();
-    let sources = sources(alloc, plan)?;
-    let lines = host_lines(alloc, net, checked, &sources)?;
+    let lines = host_lines(alloc, net, checked, plan.sources())?;
     Ok(Items::from_vec(lines))
 }
 
@@ -108,7 +106,7 @@ pub fn configuration_of(
     let _numbers = checked.automata();
     let hosts = host_lines_of(alloc, net, checked, ends, plan)?;
     let queues = queues_of(alloc, net, checked, ends, walks)?;
-    let Tables { rules, processes } = tables(alloc, plan, walks)?;
+    let Tables { rules, processes } = plan.tables(alloc, walks)?;
     Ok(Config {
         rules,
         processes,

@@ -4,7 +4,6 @@
 mod configuration;
 pub mod laws;
 pub mod one_limit;
-mod stub;
 
 pub use configuration::configuration_of;
 pub use merlin_model::OutOfMemory;

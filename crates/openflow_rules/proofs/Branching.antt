@@ -1,12 +1,12 @@
 -- The branch of a product is that of its group.
-use Rattle.std.proofs.Common.{◌≡◌, ℕ, List, Option, None, Some, slice_get, refl, sym, subst}
-use Rattle.merlin_model.specs.Networks.{Network}
-use Rattle.rules_model.specs.Products.{Vertex, WrittenWalk, Group, TreeFollows, FollowsIn, FollowsAt, Follows}
+use Rattle.std.proofs.Common.{◌≡◌, ◌≢◌, ℕ, List, map, Contains, Option, None, Some, slice_get, refl, sym, subst}
+use Rattle.merlin_model.specs.Networks.{Network, IsHost}
+use Rattle.rules_model.specs.Products.{Vertex, WrittenWalk, Group, TreeFollows, FollowsIn, FollowsAt, Follows, AllowsWalkIn, AllowsWalkAt, AllowsWalk, start_at, start_in}
 use Rattle.product_graph.specs.declared.span.Span2.{Span2}
 use Rattle.product_graph.specs.declared.span.Span2.TheVariants.{Pair, All}
 use Rattle.policy_check.specs.Checked.{CheckedPolicy}
 use Rattle.rule_tables.specs.declared.branches.Branch.{Branch}
-use Rattle.rule_tables.specs.Branches.{IsBranch}
+use Rattle.rule_tables.specs.Branches.{vertex_in, IsBranch}
 use Rattle.openflow_rules.specs.declared.spans.GroupSpan.{GroupSpan}
 use Rattle.openflow_rules.specs.GroupSpans.{IsSpanOf, IsGroupSpan}
 use Rattle.openflow_rules.specs.SinkBranches.{IsSinkBranch}
@@ -26,10 +26,19 @@ module _ (net : Network) (groups : List Group) (g : ℕ) (group : Group) (there 
     differ = h.differ;
   }
 
+  starts-in : (d : ℕ) (branch : Branch) → IsSinkBranch net group.automaton d branch → (s : ℕ) → IsHost net s → s ≢ d → AllowsWalk net groups g s d → Contains (map vertex_in branch.steps) (start_in groups g s)
+  starts-in d branch h s host other allows =
+      let way = subst (λ w. AllowsWalkIn net group.automaton w s d) effort (subst (λ o. AllowsWalkAt net o s d) there allows) in
+      subst (λ o. Contains (map vertex_in branch.steps) (start_at o s)) (sym there) (h.starts s way.0 host other way.1)
+
 pub branch-for : (net : Network) (checked : CheckedPolicy) (groups : List Group) (s : GroupSpan) (is : IsGroupSpan net checked groups s) (branch : Branch) → IsBranchOfSpan net is.group.automaton s.span branch → IsBranchFor net groups s branch
 branch-for net checked groups s is branch h = by s.span is.group.written refl is.span h
   where
     by : (span : Span2) (w : Option WrittenWalk) → is.group.written ≡ w → IsSpanOf net w span → IsBranchOfSpan net is.group.automaton span branch → IsBranchBy net groups s.group span branch
-    by (All d) None e span h = (h.dest, is-branch net groups s.group is.group is.there e d branch h)
+    by (All d) None e span h = record {
+      dest = h.dest;
+      is = is-branch net groups s.group is.group is.there e d branch h;
+      starts = λ x host other allows. starts-in net groups s.group is.group is.there e d branch h x host other allows;
+    }
     by (All d) (Some w) e span h = absurd span
     by (Pair a d) w e span h = tt

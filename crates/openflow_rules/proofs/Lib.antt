@@ -14,3 +14,12 @@ mod Steps
 mod Rooms
 mod WalkSteps
 mod Owning
+mod WalkStarts
+mod SharedWalks
+mod Sending
+mod SourceSteps
+mod ChosenGroups
+mod ChosenBranches
+mod ChosenTables
+mod ChosenSteps
+mod ChosenWalks

@@ -37,7 +37,7 @@ filtered-at f (a ∷ xs) (suc k) x y all e is =
     let first = all 0 a (omega arith) refl in
     ap (λ o. slice_get (cons_option o (filter_map f xs)) (suc k)) first.1 ∙ filtered-at f xs k x y (λ i b lt at_i. all (suc i) b (omega (arith, lt)) at_i) e is
 
-zip-map : {X Y : Type 0} (R : X → Y → Type 0) (f : X → Y) (xs : List X) → AllByRecursion (λ x. R x (f x)) xs → AllZip R xs (map f xs)
+pub zip-map : {X Y : Type 0} (R : X → Y → Type 0) (f : X → Y) (xs : List X) → AllByRecursion (λ x. R x (f x)) xs → AllZip R xs (map f xs)
 zip-map R f [] h = tt
 zip-map R f (x ∷ xs) h = (h.0, zip-map R f xs h.1)
 
@@ -46,13 +46,13 @@ module _ (j : ℕ) where
   abbrev pub is_for : Ends → Bool
   is_for e = e.statement == j
 
-  for-it : (e : Ends) → e.statement ≡ j → is_for e ≡ true
+  pub for-it : (e : Ends) → e.statement ≡ j → is_for e ≡ true
   for-it e is = grind arith
 
-  not-for : (e x : Ends) → e.statement ≡ j → x.statement < e.statement → is_for x ≡ false
+  pub not-for : (e x : Ends) → e.statement ≡ j → x.statement < e.statement → is_for x ≡ false
   not-for e x is lt = grind arith
 
-  is-j : (e : Ends) → is_for e ≡ true → e.statement ≡ j
+  pub is-j : (e : Ends) → is_for e ≡ true → e.statement ≡ j
   is-j e is = grind arith
 
   pub found-at : (ends : List Ends) (k : ℕ) (e : Ends) → Pairwise (λ a b. a.statement < b.statement) ends → slice_get ends k ≡ Some e → e.statement ≡ j → find is_for ends ≡ Some e
@@ -61,7 +61,7 @@ module _ (j : ℕ) where
   found-at (x ∷ ends) (suc k) e up at_k is =
       ap (λ b. cond b (Some x) (find is_for ends)) (not-for e x is (all_in (λ b. x.statement < b.statement) ends e up.0 (in_from ends e (get-contains ends k e at_k)))) ∙ found-at ends k e up.1 at_k is
 
-  position-at : (n : ℕ) (ends : List Ends) (k : ℕ) (e : Ends) → Pairwise (λ a b. a.statement < b.statement) ends → slice_get ends k ≡ Some e → e.statement ≡ j → position_from is_for n ends ≡ Some (n + k)
+  pub position-at : (n : ℕ) (ends : List Ends) (k : ℕ) (e : Ends) → Pairwise (λ a b. a.statement < b.statement) ends → slice_get ends k ≡ Some e → e.statement ≡ j → position_from is_for n ends ≡ Some (n + k)
   position-at n [] k e up at_k is = absurd (none-some at_k)
   position-at n (x ∷ ends) zero e up at_k is =
       ap (λ b. cond b (Some n) (position_from is_for (n + 1) ends)) (for-it x (ap (λ a. a.statement) (some-same at_k) ∙ is)) ∙ ap Some (let s : n ≡ n + 0 = omega arith in s)
@@ -69,11 +69,11 @@ module _ (j : ℕ) where
       ap (λ b. cond b (Some n) (position_from is_for (n + 1) ends)) (not-for e x is (all_in (λ b. x.statement < b.statement) ends e up.0 (in_from ends e (get-contains ends k e at_k))))
       ∙ position-at (n + 1) ends k e up.1 at_k is ∙ ap Some (let s : (n + 1) + k ≡ n + suc k = omega arith in s)
 
-  found-none : (ends : List Ends) → AllByRecursion (λ e. is_for e ≡ false) ends → find is_for ends ≡ None
+  pub found-none : (ends : List Ends) → AllByRecursion (λ e. is_for e ≡ false) ends → find is_for ends ≡ None
   found-none [] h = refl
   found-none (x ∷ ends) h = ap (λ b. cond b (Some x) (find is_for ends)) h.0 ∙ found-none ends h.1
 
-  position-none : (n : ℕ) (ends : List Ends) → AllByRecursion (λ e. is_for e ≡ false) ends → position_from is_for n ends ≡ None
+  pub position-none : (n : ℕ) (ends : List Ends) → AllByRecursion (λ e. is_for e ≡ false) ends → position_from is_for n ends ≡ None
   position-none n [] h = refl
   position-none n (x ∷ ends) h = ap (λ b. cond b (Some n) (position_from is_for (n + 1) ends)) h.0 ∙ position-none (n + 1) ends h.1
 
@@ -98,21 +98,21 @@ module _ (net : Network) (checked : CheckedPolicy) (ends : List Ends) (automata 
       let t = automata j path.0 path.1 in
       record { table = t.0; is = t.1; width = t.2.built.1.width }
 
-  up : Pairwise (λ a b. a.statement < b.statement) ends
+  pub up : Pairwise (λ a b. a.statement < b.statement) ends
   up = ends-up ends (increasing-pairwise (map (λ e. e.statement) ends) all.ascending)
 
   -- the ends that are found are those of a guaranteed statement
   pub ends-are : (j : ℕ) (e : Ends) → ends_for ends j ≡ Some e → AreTheEnds net checked.policy e
   ends-are j e found = all_in (AreTheEnds net checked.policy) ends e all.each (find-in (λ x. x.statement == j) ends e found).0
 
-  no-ends : (j : ℕ) → ¬ IsGuaranteed checked.policy j → AllByRecursion (λ e. (e.statement == j) ≡ false) ends
+  pub no-ends : (j : ℕ) → ¬ IsGuaranteed checked.policy j → AllByRecursion (λ e. (e.statement == j) ≡ false) ends
   no-ends j free = all-map (AreTheEnds net checked.policy) (λ e. (e.statement == j) ≡ false) (λ e h. by e h (e.statement == j) refl) ends all.each
     where
       by : (e : Ends) → AreTheEnds net checked.policy e → (b : Bool) → (e.statement == j) ≡ b → (e.statement == j) ≡ false
       by e h true is = absurd (free (subst (IsGuaranteed checked.policy) (is-j j e is) h.guaranteed))
       by e h false is = is
 
-  stands-at : (j : ℕ) (t : AutomatonTables) → j < length (paths_of checked.policy) → automaton_of_statement checked j ≡ Some t → slice_get (statement_automata checked) j ≡ Some t
+  pub stands-at : (j : ℕ) (t : AutomatonTables) → j < length (paths_of checked.policy) → automaton_of_statement checked j ≡ Some t → slice_get (statement_automata checked) j ≡ Some t
   stands-at j t lt is = by (slice_get checked.automaton_numbers j) refl is
     where
       each : (i n : ℕ) → i < j → slice_get checked.automaton_numbers i ≡ Some n → (table : AutomatonTables) × (slice_get checked.automata n ≡ Some table)

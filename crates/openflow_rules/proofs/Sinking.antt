@@ -2,12 +2,12 @@
 use Rattle.std.proofs.Common.{◌≡◌, ◌≢◌, ◌⊎◌, ◌<◌, ◌≤◌, inl, inr, ◌+◌, ◌==◌, ℕ, zero, suc, Bool, true, false, cond, List, [], ◌∷◌, ◌++◌, length, map, take, get_or, slice_get, Contains, Option, None, Some, refl, sym, ◌∙◌, ap, subst, arith}
 use Rattle.std.specs.Prelude.{option_map}
 use Rattle.merlin_model.specs.Networks.{Network, IsHost, Pairwise}
-use Rattle.rules_model.specs.Products.{SymbolAutomaton, Vertex, loc_of, function_place, TreeFollows}
+use Rattle.rules_model.specs.Products.{SymbolAutomaton, Vertex, loc_of, function_place, start_of, LeadsToEnd, TreeFollows}
 use Rattle.product_graph.specs.declared.span.Vertex.{Vertex as ListedVertex}
 use Rattle.product_graph.specs.declared.span.Product.{Product}
 use Rattle.product_graph.specs.declared.span.Span2.TheVariants.{All}
 use Rattle.product_graph.specs.Products.{vertex_of, vertices_of, IsBefore, IsTrimmed}
-use Rattle.product_graph.proofs.Lists.{some-same, none-some, below_or_at, get-below, get-contains, get-more, take-more, map-length, pairwise-append, pairwise-map, length-more}
+use Rattle.product_graph.proofs.Lists.{some-same, none-some, below_or_at, get-below, get-contains, contains-left, get-more, take-more, map-length, pairwise-append, pairwise-map, length-more}
 use Rattle.path_automaton.proofs.Classing.{get-end}
 use Rattle.sink_tree.specs.Trees.{NextLeads, IsSinkTree}
 use Rattle.rule_tables.specs.declared.branches.Step.{Step}
@@ -15,7 +15,7 @@ use Rattle.rule_tables.specs.declared.branches.Branch.{Branch}
 use Rattle.rule_tables.specs.Branches.{vertex_in, vertex_at, next_at, LeadsOn}
 use Rattle.openflow_rules.specs.SinkBranches.{before_end, AreStepsBelow, IsSinkBranch}
 
-get-mapped : {X Y : Type 0} (f : X → Y) (xs : List X) (k : ℕ) → slice_get (map f xs) k ≡ option_map f (slice_get xs k)
+pub get-mapped : {X Y : Type 0} (f : X → Y) (xs : List X) (k : ℕ) → slice_get (map f xs) k ≡ option_map f (slice_get xs k)
 get-mapped f [] k = refl
 get-mapped f (x ∷ xs) zero = refl
 get-mapped f (x ∷ xs) (suc k) = get-mapped f xs k
@@ -163,18 +163,24 @@ module _ (net : Network) (a : SymbolAutomaton) (d : ℕ) (product : Product) (ne
       follow = λ k v e. subst (λ l. (us : List Vertex) × LeadsOn l k us × TreeFollows net a d v us) (sym same) (follow k v (ap (λ l. vertex_at l k) (sym same) ∙ e));
       all = λ v us f. subst (λ l. Contains (map vertex_in l) v) (sym same) (subst (λ l. Contains l v) (sym steps-are) (let p = all v us f in get-contains inside p.0 v p.1));
       differ = subst (λ l. Pairwise (λ u v. u ≢ v) (map vertex_in l)) (sym same) (subst (Pairwise (λ u v. u ≢ v)) (sym steps-are) differ);
+      starts = λ s us host other way. subst (λ l. Contains (map vertex_in l) (start_of a s)) (sym same) (subst (λ l. Contains l (start_of a s)) (sym steps-are) (start s us host other way));
     }
       where
+        start : (s : ℕ) (us : List Vertex) → IsHost net s → s ≢ d → LeadsToEnd net a d (start_of a s) us → Contains inside (start_of a s)
+        start s us host other way =
+            contains-left is.first is.inner (start_of a s) ((is.first_are (start_of a s)).1 ((s, (host, other), refl), (s, (host, other), record { before = []; reached = refl; after = us; leads = way })))
+
         follow : (k : ℕ) (v : Vertex) → vertex_at steps k ≡ Some v → (us : List Vertex) × LeadsOn steps k us × TreeFollows net a d v us
         follow k v e =
             let here : slice_get inside k ≡ Some v = ap (λ l. slice_get l k) (sym steps-are) ∙ get-mapped vertex_in steps k ∙ e in
             let p = at k v here in
             (p.0, leads-on k p.0 (get-below inside k v here) p.1, p.2)
 
-pub empty-branch : (net : Network) (a : SymbolAutomaton) (d : ℕ) → ((v : Vertex) (us : List Vertex) → ¬ TreeFollows net a d v us) → (branch : Branch) → branch.dest ≡ d → branch.steps ≡ [] → IsSinkBranch net a d branch
-empty-branch net a d none branch dest same = record {
+pub empty-branch : (net : Network) (a : SymbolAutomaton) (d : ℕ) → ((v : Vertex) (us : List Vertex) → ¬ TreeFollows net a d v us) → ((s : ℕ) (us : List Vertex) → IsHost net s → s ≢ d → ¬ LeadsToEnd net a d (start_of a s) us) → (branch : Branch) → branch.dest ≡ d → branch.steps ≡ [] → IsSinkBranch net a d branch
+empty-branch net a d none cut branch dest same = record {
   dest = dest;
   follow = λ k v e. absurd (none-some (ap (λ l. vertex_at l k) (sym same) ∙ e));
   all = λ v us f. absurd (none v us f);
   differ = subst (λ l. Pairwise (λ u v. u ≢ v) (map vertex_in l)) (sym same) tt;
+  starts = λ s us host other way. absurd (cut s us host other way);
 }

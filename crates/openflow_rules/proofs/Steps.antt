@@ -74,7 +74,7 @@ numbered-append : {X : Type 0} (n : ℕ) (xs : List X) (x : X) → enumerate_fro
 numbered-append n [] x = ap (λ k. (k, x) ∷ []) (let e : n ≡ n + 0 = omega arith in e)
 numbered-append n (y ∷ xs) x = ap (λ r. (n, y) ∷ r) (numbered-append (n + 1) xs x ∙ ap (λ k. enumerate_from (n + 1) xs ++ (k, x) ∷ []) (let e : (n + 1) + length xs ≡ n + suc (length xs) = omega arith in e))
 
-take-long : {X : Type 0} (xs : List X) (n : ℕ) → n ≤ length xs → length (take n xs) ≡ n
+pub take-long : {X : Type 0} (xs : List X) (n : ℕ) → n ≤ length xs → length (take n xs) ≡ n
 take-long [] zero le = refl
 take-long (x ∷ xs) zero le = refl
 take-long [] (suc n) le = absurd (omega (arith, le))

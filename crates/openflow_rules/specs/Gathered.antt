@@ -1,15 +1,15 @@
 -- What the products of groups come to: their tags, and how many more entries there may be.
-use Rattle.std.specs.Prelude.{ℕ, ◌≡◌, ◌≤◌, ◌<◌, ◌+◌, ◌⊎◌, ◌↔◌, ◌==◌, ◌&&◌, ⊤, Bool, not, List, [], ◌∷◌, ◌++◌, length, sum_by, count_by, is_some, IsSome, Option, None, Some, Contains}
+use Rattle.std.specs.Prelude.{ℕ, ◌≡◌, ◌≢◌, ◌≤◌, ◌<◌, ◌+◌, ◌⊎◌, ◌↔◌, ◌==◌, ◌&&◌, ⊤, Bool, not, List, [], ◌∷◌, ◌++◌, length, map, sum_by, count_by, is_some, IsSome, Option, None, Some, Contains}
 use Rattle.std.specs.List.{AllByRecursion, AllZip, slice_index_or}
 use Rattle.merlin_model.specs.Networks.{Network, IsHost, Pairwise, kind_of}
-use Rattle.rules_model.specs.Products.{SymbolAutomaton, Vertex, loc_of, Group, IsVertex}
+use Rattle.rules_model.specs.Products.{SymbolAutomaton, Vertex, loc_of, Group, IsVertex, AllowsWalk, start_in}
 use Rattle.rules_model.specs.Tables.{TagKey as ModelKey, tag_key_of, IsBelowKey, is_host_kind}
 use Rattle.product_graph.specs.declared.span.Vertex.{Vertex as ListedVertex}
 use Rattle.product_graph.specs.declared.span.Span2.{Span2}
 use Rattle.product_graph.specs.declared.span.Span2.TheVariants.{Pair, All}
 use Rattle.product_graph.specs.Products.{dest_of}
 use Rattle.rule_tables.specs.declared.branches.Branch.{Branch}
-use Rattle.rule_tables.specs.Branches.{IsBranch}
+use Rattle.rule_tables.specs.Branches.{vertex_in, IsBranch}
 use Rattle.predicate_split.specs.declared.fault.TheConstants.{MAX_CELLS}
 use Rattle.openflow_rules.specs.declared.fault.TheConstants.{MAX_TAGS, MAX_ENTRIES}
 use Rattle.openflow_rules.specs.declared.fault.RuleFault.{RuleFault}
@@ -84,9 +84,16 @@ IsBranchKept None branch old new = new ≡ old
 IsBranchKept (Some room) branch old new = new ≡ old ++ branch ∷ []
 
 module _ (net : Network) (groups : List Group) where
+  -- the branch of group g for host d, with each vertex that an allowed walk starts from
+  pub record IsBranchTo (g d : ℕ) (branch : Branch) : Type 0 where
+    pub dest : branch.dest ≡ d
+    pub is : IsBranch net groups g branch
+    pub starts : (s : ℕ) → IsHost net s → s ≢ d → AllowsWalk net groups g s d →
+        Contains (map vertex_in branch.steps) (start_in groups g s)
+
   -- the branch is that of group g for the span, if it is of best effort
   abbrev pub IsBranchBy : ℕ → Span2 → Branch → Type 0
-  IsBranchBy g (All d) branch = (branch.dest ≡ d) × IsBranch net groups g branch
+  IsBranchBy g (All d) branch = IsBranchTo g d branch
   IsBranchBy g (Pair s d) branch = ⊤
 
   abbrev pub IsBranchFor : GroupSpan → Branch → Type 0

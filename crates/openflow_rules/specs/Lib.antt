@@ -5,4 +5,6 @@ pub mod OwnedCells
 pub mod PlanParts
 pub mod Planning
 pub mod SinkBranches
+pub mod Sources
 pub mod WalkBranches
+pub mod WalkGroups

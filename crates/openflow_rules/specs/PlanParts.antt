@@ -4,11 +4,12 @@ use Rattle.std.specs.List.{AllZip}
 use Rattle.merlin_model.specs.declared.policy.Ends.{Ends}
 use Rattle.merlin_model.specs.Networks.{Network}
 use Rattle.merlin_model.specs.Policies.{Policy}
+use Rattle.merlin_model.specs.Assignments.{AreAllEnds}
 use Rattle.topology.specs.Symbols.{network_symbols}
 use Rattle.rules_model.specs.Products.{Group}
 use Rattle.rules_model.specs.Tables.{all_hosts}
 use Rattle.predicate_split.specs.declared.fault.TheConstants.{MAX_CELLS}
-use Rattle.policy_check.specs.Checked.{CheckedPolicy}
+use Rattle.policy_check.specs.Checked.{CheckedPolicy, HasAutomata}
 use Rattle.configuration_model.specs.Groups.{AreGrouped, AreGroups}
 use Rattle.configuration_model.specs.Pairs.{count_of_cells}
 use Rattle.openflow_rules.specs.declared.fault.TheConstants.{MAX_TAGS, MAX_ENTRIES}
@@ -45,6 +46,12 @@ pub record ArePlanParts (net : Network) (checked : CheckedPolicy) (ends : List E
   pub tags : AreTags net groups (map key_of p.tags)
   pub few : length p.tags ≤ MAX_TAGS
   pub branches : AllZip (IsBranchFor net groups) (spans_over (all_hosts net) ends p.groups.leaders) p.branches
+
+-- What a plan keeps: all statements have automata, the ends are those of the guaranteed ones, and the parts are theirs.
+pub record IsRulePlan (net : Network) (checked : CheckedPolicy) (ends : List Ends) (p : PlanParts) : Type 0 where
+  pub automata : HasAutomata (network_symbols net) checked
+  pub ends_are : AreAllEnds net checked.policy ends
+  pub parts : ArePlanParts net checked ends p
 
 -- The fault where there is no room for entries.
 abbrev pub IsEntryFault : Option ℕ → RuleFault → Type 0

@@ -22,7 +22,7 @@ pub returns-in_default : goal.returns-in_default
 returns-in_default c = λ net a host is. by net a host is
   where
     by : (net : Network) (a : SymbolAutomaton) → IsHost net c.args.dest → IsProduct net a (All c.args.dest) c.args.product.now → IsSinkBranch net a c.args.dest (record { dest = c.args.dest; steps = c.new-steps.result })
-    by net a host (inl cut) = empty-branch net a c.args.dest (c.sink_tree_is_followed.ensures.empty net a c.args.dest c.args.product.now host cut) (record { dest = c.args.dest; steps = c.new-steps.result }) refl c.new-steps.ensures
+    by net a host (inl cut) = empty-branch net a c.args.dest (c.sink_tree_is_followed.ensures.empty net a c.args.dest c.args.product.now host cut) (λ s us from other. cut.none s us (from, other)) (record { dest = c.args.dest; steps = c.new-steps.result }) refl c.new-steps.ensures
     by net a host (inr t) = absurd (c.in_default.not-Some _ (c.end.ensures ∙ t.end))
 
 pub returns : goal.returns

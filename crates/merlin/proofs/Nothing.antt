@@ -1,4 +1,4 @@
--- The value of reserving nothing.
+-- The value of reserving nothing, whatever the policy is.
 use Rattle.std.proofs.Common.{◌≡◌, ℕ, ◌+◌, ◌*◌, ◌≤◌, length, get_or, nat_lt, false, cond, List, [], ◌∷◌, map, sum_by, max, zero-add, refl, sym, ◌∙◌, ap, arith}
 use Rattle.std.proofs.lemmas.List.Sums.{sum_by-cons}
 use Rattle.merlin_model.specs.declared.policy.Objective.TheVariants as objective
@@ -8,7 +8,7 @@ use Rattle.merlin_model.specs.declared.network.DirectedLink.{DirectedLink}
 use Rattle.merlin_model.specs.Networks.{Network, directed_links, directed_links_of, from_a, from_b}
 use Rattle.merlin_model.specs.Rates.{greatest_of}
 use Rattle.merlin_model.specs.Assignments.{value_of, greatest_ratio}
-use Rattle.rules_model.specs.Plain.{any_path_policy}
+use Rattle.merlin_model.specs.Policies.{Policy}
 
 -- the sum, the greatest and the greatest ratio of no load
 costs-nothing : (n : ℕ) → 0 * n ≡ 0
@@ -38,13 +38,13 @@ ratio-nothing : (ws : List DirectedLink) → (greatest_ratio (ratios ws)).0 ≡ 
 ratio-nothing [] = refl
 ratio-nothing (w ∷ ws) = ap (λ r. r.0) (first w ws (ratio-nothing ws))
 
-pub shortest-nothing : (net : Network)
-    → Whole 0 ≡ value_of net any_path_policy [] objective.Shortest []
-shortest-nothing net = ap Whole (sym (sum-nothing (directed_links net)))
+pub shortest-nothing : (net : Network) (policy : Policy)
+    → Whole 0 ≡ value_of net policy [] objective.Shortest []
+shortest-nothing net policy = ap Whole (sym (sum-nothing (directed_links net)))
 
-pub reserved-nothing : (net : Network)
-    → Whole 0 ≡ value_of net any_path_policy [] objective.Reserved []
-reserved-nothing net = ap Whole (sym (greatest-nothing (directed_links net)))
+pub reserved-nothing : (net : Network) (policy : Policy)
+    → Whole 0 ≡ value_of net policy [] objective.Reserved []
+reserved-nothing net policy = ap Whole (sym (greatest-nothing (directed_links net)))
 
 -- the first link's capacity, or 1
 abbrev pub capacity_of : List Link → ℕ
@@ -56,16 +56,16 @@ of_links : (links : List Link)
 of_links [] = refl
 of_links (link ∷ links) = first (from_a link) (from_b link ∷ directed_links_of links) (ratio-nothing (from_b link ∷ directed_links_of links))
 
-ratio-value : (net : Network)
-    → Ratio 0 (capacity_of net.links) ≡ value_of net any_path_policy [] objective.Ratio []
-ratio-value net = ap (λ r. Ratio r.0 r.1) (sym (of_links net.links))
+pub ratio-value : (net : Network) (policy : Policy)
+    → Ratio 0 (capacity_of net.links) ≡ value_of net policy [] objective.Ratio []
+ratio-value net policy = ap (λ r. Ratio r.0 r.1) (sym (of_links net.links))
 
 first-capacity : (links : List Link) (d : Link) → 1 ≤ length links
     → (get_or links 0 d).capacity ≡ capacity_of links
 first-capacity [] d some = absurd (omega arith)
 first-capacity (l ∷ links) d some = refl
 
-pub ratio-some : (net : Network) (links : List Link) (d : Link) → links ≡ net.links
-    → 1 ≤ length links
-    → Ratio 0 (get_or links 0 d).capacity ≡ value_of net any_path_policy [] objective.Ratio []
-ratio-some net links d same some = ap (λ n. Ratio 0 n) (first-capacity links d some ∙ ap capacity_of same) ∙ ratio-value net
+pub ratio-some : (net : Network) (policy : Policy) (links : List Link) (d : Link)
+    → links ≡ net.links → 1 ≤ length links
+    → Ratio 0 (get_or links 0 d).capacity ≡ value_of net policy [] objective.Ratio []
+ratio-some net policy links d same some = ap (λ n. Ratio 0 n) (first-capacity links d some ∙ ap capacity_of same) ∙ ratio-value net policy

@@ -3,6 +3,7 @@ pub mod Reading
 pub mod Reports
 pub mod Refusals
 pub mod Compiler
+pub mod Configuring
 pub mod Compile
 pub mod Refine
 pub mod Refute

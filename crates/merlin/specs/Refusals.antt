@@ -11,6 +11,8 @@ use Rattle.policy_check.specs.declared.fault.CheckFault.{CheckFault}
 use Rattle.policy_check.specs.declared.fault.CheckFault.TheVariants as check_faults
 use Rattle.policy_check.specs.declared.fault.EndsFault.{EndsFault}
 use Rattle.policy_check.specs.declared.fault.EndsFault.TheVariants as ends_faults
+use Rattle.openflow_rules.specs.declared.fault.RuleFault.{RuleFault}
+use Rattle.openflow_rules.specs.declared.fault.RuleFault.TheVariants as rule_faults
 use Rattle.topology.specs.Look.{name_of}
 use Rattle.topology_rules.specs.declared.fault.NetFault.{NetFault}
 use Rattle.topology_rules.specs.declared.fault.NetFault.TheVariants as net_faults
@@ -91,6 +93,12 @@ ends_fault_text net (ends_faults.TooManyGuarantees count) = codes "more than 64 
 ends_fault_text net (ends_faults.NoEnds id) = codes "no ends " ++ id
 ends_fault_text net (ends_faults.ManyEnds id first second) = ends_text net id first second
 ends_fault_text net ends_faults.OutOfMemory = []
+
+abbrev pub rule_fault_text : RuleFault → List ℕ
+rule_fault_text (rule_faults.TooManyTags count) = codes "more than 4094 tags"
+rule_fault_text (rule_faults.TooManyCells count) = codes "more than 524288 cells"
+rule_fault_text (rule_faults.TooManyEntries count) = codes "more than 524288 entries"
+rule_fault_text rule_faults.OutOfMemory = []
 
 -- both are locations of the network
 abbrev pub AreLocations : Network → ℕ × ℕ → Type 0

@@ -41,7 +41,7 @@ ghost use Rattle.merlin.specs.Trace.{TraceForm, IsTracedFrom, IsTraceReply, run_
 
 use topology_rules::laws::one_network;
 
-/// A policy and a network that are built are done. In any case two replies to the same files have one
+/// A policy that compiles over its network is done. In any case two replies to the same files have one
 /// status.
 pub fn compile_replies()
     ensures done { (form : CompileForm) (policy topology : List ℕ) (net : Network)
@@ -52,6 +52,11 @@ pub fn compile_replies()
         compile_status other ≡ compile_status reply }
 {
     one_network();
+    merlin_compile::one_limit::limits_of_one_policy();
+    merlin_compile::laws::limits_are_kept_or_passed();
+    merlin_compile::laws::kept_rules_are_not_broken();
+    merlin_compile::laws::ends_that_stand_are_not_refused();
+    merlin_compile::laws::made_without_guarantees();
 }
 
 /// Of policies that keep all rules over the network, a child that refines its parent has the reply

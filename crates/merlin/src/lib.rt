@@ -1,10 +1,10 @@
 //! The program as one call: from the words of a command over files to lines on a sink.
 #![tactic(auto)]
 
-mod accepting;
 mod commands;
 mod compile;
 mod compiler;
+mod configuring;
 mod fair;
 mod fairness;
 mod inputs;

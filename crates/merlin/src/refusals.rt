@@ -10,11 +10,12 @@ ghost use Rattle.merlin.specs.Refusals.{excess_text as text_of_excess, shared_po
 ghost use Rattle.merlin.specs.Refusals.{overlap_text as text_of_overlap, conflict_text as text_of_conflict};
 ghost use Rattle.merlin.specs.Refusals.{rate_fault_text as text_of_rate_fault, check_fault_text as text_of_check_fault};
 ghost use Rattle.merlin.specs.Refusals.{hosts_text, ends_text as text_of_ends, ends_fault_text as text_of_ends_fault};
-ghost use Rattle.merlin.specs.Refusals.{AreLocations, NamesLocations};
+ghost use Rattle.merlin.specs.Refusals.{rule_fault_text as text_of_rule_fault, AreLocations, NamesLocations};
 
 use crate::compiler::EarlyFault;
 use localise::RateFault;
 use merlin_base::{Name, OutOfMemory, name_from};
+use openflow_rules::RuleFault;
 use packet_model::{Packet, print_packet};
 use policy_check::{CheckFault, EndsFault};
 use policy_parser::PolicyFault;
@@ -239,6 +240,17 @@ pub fn ends_fault_text(
     }
 }
 
+fn rule_fault_text(alloc: Global, fault: RuleFault) -> Result<Name, OutOfMemory>
+    ensures { IfOk result (λ text. text ≡ text_of_rule_fault fault) }
+{
+    match fault {
+        RuleFault::TooManyTags { .. } => plain_text(alloc, "more than 4094 tags"),
+        RuleFault::TooManyCells { .. } => plain_text(alloc, "more than 524288 cells"),
+        RuleFault::TooManyEntries { .. } => plain_text(alloc, "more than 524288 entries"),
+        RuleFault::OutOfMemory => Err(OutOfMemory),
+    }
+}
+
 /// What the fault is called. Want of memory has no name.
 pub fn early_fault_text(alloc: Global, fault: &EarlyFault) -> Result<Name, OutOfMemory>
     ensures { IfOk result (λ text. text ≡ text_of_early_fault fault.now) }
@@ -249,6 +261,7 @@ pub fn early_fault_text(alloc: Global, fault: &EarlyFault) -> Result<Name, OutOf
         EarlyFault::Check(fault) => check_fault_text(alloc, fault),
         EarlyFault::Ends { text, .. } => text.copy(alloc),
         EarlyFault::Unbuilt => plain_text(alloc, "unbuilt"),
+        EarlyFault::Rules(fault) => rule_fault_text(alloc, *fault),
         EarlyFault::OutOfMemory => Err(OutOfMemory),
     }
 }

@@ -14,3 +14,4 @@ pub mod Short
 pub mod Walks
 pub mod Cells
 pub mod Made
+pub mod OneLimit

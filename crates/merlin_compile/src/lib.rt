@@ -3,6 +3,7 @@
 
 mod configuration;
 pub mod laws;
+pub mod one_limit;
 
 pub use configuration::configuration_of;
 pub use merlin_model::OutOfMemory;

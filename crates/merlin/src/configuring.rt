@@ -100,11 +100,7 @@ fn refused_ends(alloc: Global, net: &Topology, fault: EndsFault) -> EarlyFault
 }
 
 // The configuration of a checked policy.
-fn configuration_for(
-    alloc: Global,
-    net: &Topology,
-    checked: &Checked,
-) -> Result<Config, EarlyFault>
+fn configuration_for(alloc: Global, net: &Topology, checked: &Checked) -> Result<Config, EarlyFault>
     requires checked { IsAnyCheck net.now checked.now }
     ensures ok { IfOk result (IsMadeWithEnds net.now checked.now) }
     ensures err { IfErr result (IsUnmadeWithEnds net.now checked.now) }

@@ -113,8 +113,9 @@ module _ (net : Network) where
   inner-in gs hs z g d vs h = record {
     ascend = h.ascend;
     are = λ v. (
-        λ c. let is = (h.are v).0 c in (is.0, vertex-in gs hs z g d v is.1),
-        λ is. (h.are v).1 (is.0, vertex-in hs gs (groups-back gs hs z) g d v is.1));
+      λ c. let is = (h.are v).0 c in (is.0, vertex-in gs hs z g d v is.1),
+      λ is. (h.are v).1 (is.0, vertex-in hs gs (groups-back gs hs z) g d v is.1),
+    );
   }
 
   abbrev of_group : ℕ × Group → List (ℕ × ℕ)
@@ -236,7 +237,7 @@ module _ (known : Numbering) (net : Network) (raw : NamedPolicy) (free : (i : �
         let a = bare checked was gs p in
         let b = bare other has hs q in
         let same : b.leaders ≡ a.leaders = ascending-same b.leaders a.leaders b.grouped.ascending a.grouped.ascending
-            (λ j. (λ c. (a.grouped.leaders_are j).1 ((b.grouped.leaders_are j).0 c), λ c. (b.grouped.leaders_are j).1 ((a.grouped.leaders_are j).0 c))) in
+        (λ j. (λ c. (a.grouped.leaders_are j).1 ((b.grouped.leaders_are j).0 c), λ c. (b.grouped.leaders_are j).1 ((a.grouped.leaders_are j).0 c))) in
         alike-all a.leaders gs hs (all-from a.leaders (λ j i. ((a.grouped.leaders_are j).0 (in_to a.leaders j i)).0)) a.are (subst (λ l. AllZip (IsBare other) l hs) same b.are)
       where
         all-from : (js : List ℕ) → ((j : ℕ) → In j js → j < length (paths_of policy)) → AllByRecursion (λ j. j < length (paths_of policy)) js
@@ -247,15 +248,17 @@ module _ (known : Numbering) (net : Network) (raw : NamedPolicy) (free : (i : �
     passes-too : IsWithinLimits net checked [] → (fault : RuleFault) → PassesLimit net other [] fault → PassesLimit net checked [] fault
     passes-too within (TooManyTags count) (m, e) =
         let f = within.tags in
-        let z = groups-back net f.groups m.groups (planned-alike f.groups m.groups f.planned m.planned) in
-        (record {
-          groups = f.groups;
-          planned = f.planned;
-          tags = m.tags;
-          ascend = m.ascend;
-          each = all-map (IsTagKey net m.groups) (IsTagKey net f.groups) (λ key is. tag-in net m.groups f.groups z key is) m.tags m.each;
-          many = m.many;
-        }, e)
+        let z = groups-back net f.groups m.groups (planned-alike f.groups m.groups f.planned m.planned) in (
+          record {
+            groups = f.groups;
+            planned = f.planned;
+            tags = m.tags;
+            ascend = m.ascend;
+            each = all-map (IsTagKey net m.groups) (IsTagKey net f.groups) (λ key is. tag-in net m.groups f.groups z key is) m.tags m.each;
+            many = m.many;
+          },
+          e,
+        )
     passes-too within (TooManyCells count) (few, many, e) =
         (within.tags, subst (λ p. MAX_CELLS < count_of_cells net p) (has.is_check.policy ∙ sym was.is_check.policy) many, e)
     passes-too within (TooManyEntries count) (few, cells, (n, h, many), e) =

@@ -65,7 +65,8 @@ fn host_lines_of(
     ensures { IfOk result (AreHostLines net.now checked.now.policy) }
 {
     let _sound = checked.statements();
-    let lines = host_lines(alloc, net, checked, plan.sources())?;
+    let live = plan.sources();
+    let lines = host_lines(alloc, net, checked, live)?;
     Ok(Items::from_vec(lines))
 }
 

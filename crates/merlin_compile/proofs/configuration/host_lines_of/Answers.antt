@@ -9,9 +9,9 @@ host_lines-requires-clause-cells c = few-between c.args.net.now c.args.checked.n
 
 pub returns : goal.returns
 returns c =
-    let sources = map (λ (hosts : Vec ℕ Global). hosts.items) c.sources.result.now in
+    let sources = map (λ (hosts : Vec ℕ Global). hosts.items) c.sources-live.result.now in
     record {
       sources = sources;
-      sources_are = subst (λ (p : Planned). AreSources p.net p.checked.policy sources) c.requires.plan c.sources.ensures;
+      sources_are = subst (λ (p : Planned). AreSources p.net p.checked.policy sources) c.requires.plan c.sources-live.ensures;
       is = c.from_vec.ensures ∙ c.in_ok-lines.ensures;
     }

@@ -18,10 +18,10 @@ use Rattle.merlin.specs.declared.trace.TraceReply.TheVariants.{BadTopology, BadR
 use Rattle.merlin.specs.Trace.{IsHostNamed, run_lines, AreLinesOfRun}
 
 -- where the words let the packet start, or why they do not
-abbrev pub IsStart : Network → List ℕ → List ℕ → Start → Type 0
-IsStart net host packet (starts.At loc p) = IsHostNamed net host loc × IsPacketText packet p
-IsStart net host packet starts.UnknownHost = (loc : ℕ) → ¬ IsHostNamed net host loc
-IsStart net host packet (starts.BadPacket at) =
+abbrev pub IsWordedStart : Network → List ℕ → List ℕ → Start → Type 0
+IsWordedStart net host packet (starts.At loc p) = IsHostNamed net host loc × IsPacketText packet p
+IsWordedStart net host packet starts.UnknownHost = (loc : ℕ) → ¬ IsHostNamed net host loc
+IsWordedStart net host packet (starts.BadPacket at) =
     (loc : ℕ) × IsHostNamed net host loc × IsFirstWrong packet at
 
 -- the reply has these lines, of a run that came to its end

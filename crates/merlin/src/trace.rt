@@ -11,7 +11,7 @@ ghost use Rattle.merlin.specs.Reports.{IsReportWith};
 ghost use Rattle.merlin.specs.Inputs.{AreNetworkAndResult};
 ghost use Rattle.merlin.specs.Trace.{TraceForm, IsTraceForm, trace_form, trace_files, IsHostNamed};
 ghost use Rattle.merlin.specs.Trace.{visit_line, Traces, IsTraceReply};
-ghost use Rattle.merlin.specs.Tracing.{IsStart, IsEndedWith, TellsTrace, TellsRun};
+ghost use Rattle.merlin.specs.Tracing.{IsWordedStart, IsEndedWith, TellsTrace, TellsRun};
 ghost use Rattle.merlin.specs.declared.trace.TraceReply.TheVariants.{UnknownHost};
 ghost use Rattle.merlin.specs.Trace.{trace_lines as lines_of_reply, trace_status};
 
@@ -108,7 +108,7 @@ pub enum Start {
 
 // Where the packet starts by the last two words.
 fn start_by(net: &Topology, host: &[u8], packet: &[u8]) -> Start
-    ensures { IsStart net.now host.now packet.now result }
+    ensures { IsWordedStart net.now host.now packet.now result }
 {
     let Some(loc) = host_named(net, host) else {
         return Start::UnknownHost;
@@ -311,7 +311,8 @@ pub fn trace_report<A: Fn(&FnDecl, Packet) -> Packet + Drop>(
     requires callable { A.IsAlwaysCallable apply }
     requires read { length contents.now ≡ 2 }
     ensures { let behaviour = behaviour_by (A.post apply) (λ d. d.now) in
-        let is_reply = IsTraceReply behaviour (trace_form command.entry) (texts_read contents.now) in
+        let form = trace_form command.entry in
+        let is_reply = IsTraceReply behaviour form (texts_read contents.now) in
         IfOk result (IsReportWith is_reply lines_of_reply trace_status) }
 {
     match trace_reply(alloc, &contents[0], &contents[1], command, apply) {

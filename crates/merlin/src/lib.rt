@@ -16,6 +16,8 @@ mod refute;
 mod report;
 mod trace;
 mod trace_lines;
+mod unwire;
+mod wire;
 
 pub use compile::{DEFAULT_BUDGET, MAX_BUDGET};
 pub use compiler::{Compiled, EarlyFault, compile_policy};

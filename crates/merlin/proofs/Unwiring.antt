@@ -21,9 +21,9 @@ use Rattle.merlin.specs.Unwire.{UnwireForm, IsLineOfRule, BeginsWithMessages, Ha
 use Rattle.merlin.specs.Wire.{IsSwitchNamed}
 use Rattle.merlin_base.specs.Lexemes.{Lacks}
 use Rattle.merlin_base.proofs.Cutting.{free, cut_once}
-use Rattle.merlin.specs.Messages.{IsLineFault, IsLineBefore, BeginsWrong, IsFaultBefore, IsFaultIn, Unwired}
-use Rattle.merlin.specs.declared.unwire.LineFault.{LineFault}
-use Rattle.merlin.specs.declared.unwire.LineFault.TheVariants as faults
+use Rattle.merlin.specs.Messages.{IsDigitsFault, IsLineBefore, BeginsWrong, IsFaultBefore, IsFaultIn, Unwired}
+use Rattle.merlin.specs.declared.unwire.DigitsFault.{DigitsFault}
+use Rattle.merlin.specs.declared.unwire.DigitsFault.TheVariants as faults
 use Rattle.merlin.specs.declared.unwire.UnwireReply.{UnwireReply}
 use Rattle.merlin.specs.declared.unwire.UnwireReply.TheVariants as replies
 
@@ -43,7 +43,7 @@ told_fault message fault at e h = subst (IsWireFault message) e h
 pub some_rest : (rest : List ℕ) (b : Bool) → b ≡ (length rest == 0) → b ≡ false → rest ≡ [] → ⊥
 some_rest rest b e f g = let n : length rest ≡ 0 = ap length g in grind arith
 
-pub fault_before : (text digits rest : List ℕ) (fault : LineFault) → text ≡ digits ++ 10 ∷ rest → Lacks 10 digits → IsLineFault digits fault → IsFaultBefore text fault
+pub fault_before : (text digits rest : List ℕ) (fault : DigitsFault) → text ≡ digits ++ 10 ∷ rest → Lacks 10 digits → IsDigitsFault digits fault → IsFaultBefore text fault
 fault_before text digits rest faults.NoDigits e lacks is = λ others message more lack split ok.
     let cut = cut_once 10 digits others rest more (free 10 digits lacks) (free 10 others lack) (sym e ∙ split) in
     is message (ap decode_of cut.front ∙ ok)
@@ -73,7 +73,7 @@ one_more switch text rest more rules others b (rule, is, e) = subst (λ rs. Begi
   whole = b.whole ∙ ap (λ z. flat_map line b.digits ++ z) (is.whole ∙ sym (append_assoc is.digits (10 ∷ []) more)) ∙ sym (append_assoc (flat_map line b.digits) (line is.digits) more) ∙ ap (λ z. z ++ more) (sym (lines_push b.digits is.digits));
 })
 
-pub fault_in : (switch : ℕ) (text rest : List ℕ) (rules : List Rule) (number : ℕ) (fault : LineFault) → BeginsWithMessages switch text rules rest → rest ≢ [] → number ≡ length rules + 1
+pub fault_in : (switch : ℕ) (text rest : List ℕ) (rules : List Rule) (number : ℕ) (fault : DigitsFault) → BeginsWithMessages switch text rules rest → rest ≢ [] → number ≡ length rules + 1
     → IsFaultBefore rest fault → IsFaultIn switch text number fault
 fault_in switch text rest rules number faults.NoDigits b some count is = record { rules = rules; rest = rest; before = b; some = some; none = is; counted = count }
 fault_in switch text rest rules number (faults.BadMessage at) b some count is = record {

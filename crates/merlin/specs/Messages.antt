@@ -5,19 +5,19 @@ use Rattle.merlin_base.specs.Lexemes.{Lacks}
 use Rattle.merlin_model.specs.Networks.{Network}
 use Rattle.merlin_model.specs.declared.config.Rule.{Rule}
 use Rattle.openflow_wire.specs.Messages.{message_fault}
-use Rattle.merlin.specs.declared.unwire.LineFault.{LineFault}
-use Rattle.merlin.specs.declared.unwire.LineFault.TheVariants as faults
+use Rattle.merlin.specs.declared.unwire.DigitsFault.{DigitsFault}
+use Rattle.merlin.specs.declared.unwire.DigitsFault.TheVariants as faults
 use Rattle.merlin.specs.declared.unwire.MessageFault.{MessageFault}
 use Rattle.merlin.specs.declared.unwire.UnwireReply.{UnwireReply}
 use Rattle.merlin.specs.declared.unwire.UnwireReply.TheVariants.{BadTopology, UnknownSwitch, NoDigits, BadMessage, Written}
 use Rattle.merlin.specs.Unwire.{IsLineOfRule, HasNoDigits, HasNoMessage, HasRules}
 
 -- why digits are no message of a rule
-abbrev pub IsLineFault : List ℕ → LineFault → Type 0
-IsLineFault digits faults.NoDigits = (message : List ℕ) → ¬ (decode_of digits ≡ Ok message)
-IsLineFault digits (faults.BadMessage at) =
+abbrev pub IsDigitsFault : List ℕ → DigitsFault → Type 0
+IsDigitsFault digits faults.NoDigits = (message : List ℕ) → ¬ (decode_of digits ≡ Ok message)
+IsDigitsFault digits (faults.BadMessage at) =
     (message : List ℕ) × (decode_of digits ≡ Ok message) × (message_fault message ≡ Some at)
-IsLineFault digits faults.OutOfMemory = ⊤
+IsDigitsFault digits faults.OutOfMemory = ⊤
 
 -- The text begins with the line of the message of a rule.
 pub record IsLineBefore (switch : ℕ) (text : List ℕ) (rule : Rule) (rest : List ℕ) : Type 0 where
@@ -35,14 +35,14 @@ pub record BeginsWrong (text : List ℕ) (at : ℕ) : Type 0 where
   pub wrong : message_fault message ≡ Some at
 
 -- why a text begins with no line of a rule's message
-abbrev pub IsFaultBefore : List ℕ → LineFault → Type 0
+abbrev pub IsFaultBefore : List ℕ → DigitsFault → Type 0
 IsFaultBefore text faults.NoDigits = (digits message more : List ℕ) → Lacks 10 digits →
     text ≡ digits ++ 10 ∷ more → ¬ (decode_of digits ≡ Ok message)
 IsFaultBefore text (faults.BadMessage at) = BeginsWrong text at
 IsFaultBefore text faults.OutOfMemory = ⊤
 
 -- why a text is not all lines of messages
-abbrev pub IsFaultIn : ℕ → List ℕ → ℕ → LineFault → Type 0
+abbrev pub IsFaultIn : ℕ → List ℕ → ℕ → DigitsFault → Type 0
 IsFaultIn switch text number faults.NoDigits = HasNoDigits switch text number
 IsFaultIn switch text number (faults.BadMessage at) = HasNoMessage switch text number at
 IsFaultIn switch text number faults.OutOfMemory = ⊤

@@ -11,7 +11,7 @@ ghost use Rattle.merlin.specs.Reports.{IsReportWith};
 ghost use Rattle.merlin.specs.Unwire.{UnwireForm, IsUnwireForm, unwire_form, unwire_files};
 ghost use Rattle.merlin.specs.Unwire.{IsLineOfRule, BeginsWithMessages, no_digits_text, bad_message_text};
 ghost use Rattle.merlin.specs.Unwire.{Unwires, IsUnwireReply, unwire_lines as lines_of_reply, unwire_status};
-ghost use Rattle.merlin.specs.Messages.{IsLineFault, IsLineBefore, IsFaultBefore, IsMessageFault, Unwired};
+ghost use Rattle.merlin.specs.Messages.{IsDigitsFault, IsLineBefore, IsFaultBefore, IsMessageFault, Unwired};
 
 use crate::inputs::{switch_named, unknown_switch_lines, wrong_topology_lines};
 use crate::reading::{RESULT_LIMIT, TEXT_LIMIT, Wanted};
@@ -82,25 +82,25 @@ pub fn files_to_unwire<'a>(command: Unwire<'a>) -> [Wanted<'a>; 2]
 
 /// Why a line has no rule. The place is a byte offset in the message.
 #[derive(Clone, Copy)]
-pub enum LineFault {
+pub enum DigitsFault {
     NoDigits,
     BadMessage(usize),
     OutOfMemory,
 }
 
 // The rule of the message of these digits.
-fn rule_of_digits(alloc: Global, digits: &[u8], switch: usize) -> Result<Rule, LineFault>
+fn rule_of_digits(alloc: Global, digits: &[u8], switch: usize) -> Result<Rule, DigitsFault>
     ensures ok { IfOk result (IsLineOfRule switch digits.now) }
-    ensures err { IfErr result (IsLineFault digits.now) }
+    ensures err { IfErr result (IsDigitsFault digits.now) }
 {
     match hex::decode(alloc, digits) {
         Ok(message) => match decode(alloc, &message, switch) {
             Ok((rule, _)) => Ok(rule),
-            Err(WireFault::BadMessage { at }) => Err(LineFault::BadMessage(at)),
-            Err(WireFault::OutOfMemory) => Err(LineFault::OutOfMemory),
+            Err(WireFault::BadMessage { at }) => Err(DigitsFault::BadMessage(at)),
+            Err(WireFault::OutOfMemory) => Err(DigitsFault::OutOfMemory),
         },
-        Err(FromHexError::OutOfMemory) => Err(LineFault::OutOfMemory),
-        Err(_) => Err(LineFault::NoDigits),
+        Err(FromHexError::OutOfMemory) => Err(DigitsFault::OutOfMemory),
+        Err(_) => Err(DigitsFault::NoDigits),
     }
 }
 
@@ -108,7 +108,7 @@ fn rule_of_digits(alloc: Global, digits: &[u8], switch: usize) -> Result<Rule, L
 #[derive(Clone, Copy)]
 pub struct MessageFault {
     pub line: usize,
-    pub fault: LineFault,
+    pub fault: DigitsFault,
 }
 
 // Adds the rule of the message with whose line the text begins. It answers what stands behind the line.
@@ -117,18 +117,18 @@ fn read_message<'a>(
     text: &'a [u8],
     switch: usize,
     rules: &mut Items<Rule>,
-) -> Result<&'a [u8], LineFault>
+) -> Result<&'a [u8], DigitsFault>
     ensures ok { IfOk result (λ rest. (rule : Stated)
         × IsLineBefore switch text.now rule rest.now × (rules.new ≡ rules.old ++ rule ∷ [])) }
     ensures err { IfErr result (IsFaultBefore text.now) }
 {
     let Some((digits, rest)) = split_at_byte(text, b'\n') else {
-        return Err(LineFault::NoDigits);
+        return Err(DigitsFault::NoDigits);
     };
     match rule_of_digits(alloc, digits, switch) {
         Ok(rule) => match rules.push(rule) {
             Ok(()) => Ok(rest),
-            Err(_) => Err(LineFault::OutOfMemory),
+            Err(_) => Err(DigitsFault::OutOfMemory),
         },
         Err(fault) => Err(fault),
     }
@@ -151,7 +151,7 @@ fn read_messages(
         let Some(line) = rules.len().checked_add(1) else {
             return Err(MessageFault {
                 line: 0,
-                fault: LineFault::OutOfMemory,
+                fault: DigitsFault::OutOfMemory,
             });
         };
         match read_message(alloc, rest, switch, rules) {
@@ -194,9 +194,9 @@ fn reply_to_messages(
     match read_messages(alloc, messages, switch, &mut rules) {
         Ok(()) => Ok(UnwireReply::Written(lines_of_rules(alloc, net, rules)?)),
         Err(MessageFault { line, fault }) => match fault {
-            LineFault::NoDigits => Ok(UnwireReply::NoDigits(line)),
-            LineFault::BadMessage(at) => Ok(UnwireReply::BadMessage(line, at)),
-            LineFault::OutOfMemory => Err(OutOfMemory),
+            DigitsFault::NoDigits => Ok(UnwireReply::NoDigits(line)),
+            DigitsFault::BadMessage(at) => Ok(UnwireReply::BadMessage(line, at)),
+            DigitsFault::OutOfMemory => Err(OutOfMemory),
         },
     }
 }

@@ -106,11 +106,7 @@ fn push_message(
 }
 
 // The lines of the messages of a switch's rules.
-fn lines_of_messages(
-    alloc: Global,
-    rules: &[Rule],
-    switch: usize,
-) -> Result<Vec<Name>, OutOfMemory>
+fn lines_of_messages(alloc: Global, rules: &[Rule], switch: usize) -> Result<Vec<Name>, OutOfMemory>
     requires { All IsRule rules.now }
     ensures { IfOk result (λ lines. lines.items ≡ message_lines 1 (rules_at switch rules.now)) }
 {

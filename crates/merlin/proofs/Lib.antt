@@ -15,3 +15,6 @@ pub mod Replies
 pub mod Divisions
 pub mod Tracing
 pub mod OneTrace
+pub mod Wiring
+pub mod Unwiring
+pub mod Rewiring

@@ -5,8 +5,7 @@ use Rattle.merlin_base.specs.Outside.{Grows, GrowsByPrefix, Rose}
 use Rattle.merlin_base.specs.declared.status.Status.{Status}
 use Rattle.merlin_base.specs.declared.status.Status.TheVariants as status
 use Rattle.merlin.specs.Reading.{AreContents, IsFirstTooLong, RoseIn}
-use Rattle.merlin.specs.Commands.{CommandName, Compiling, Refining, Refuting, Dividing, Judging, meaning_of, Form, Reply, files_of, Means, reply_status}
-use Rattle.merlin.specs.Commands.{CommandName, Compiling, Refuting, Dividing, Judging, Tracing, meaning_of, Form, Reply, files_of, Means, reply_status}
+use Rattle.merlin.specs.Commands.{CommandName, Compiling, Refining, Refuting, Dividing, Judging, meaning_of, Form, Reply, files_of, Means, reply_status, Tracing, Wiring, Unwiring}
 use Rattle.merlin.specs.Outcome.{World, Taking, Answer, NoForm, NotRead, TooLong, Replied, IsNoForm, IsAsked, IsAnswerTo, answer_status, answer_text, IsBrokenOff, EndsWith, IsOutcome, EndsAs, IsOfRepliesAlone, IsReplied, IsRefusedFile, IsGiven, IsReplyOver, IsEndOver, IsTooLong, RoseForAFile, SaysByStatus}
 use Rattle.merlin.specs.Parts.{IsReportTo, EndsBy, EndsByResult}
 use Rattle.merlin.specs.declared.report.Report.{Report}
@@ -16,6 +15,8 @@ use Rattle.merlin.specs.declared.refute.RefuteReply.TheVariants as refute
 use Rattle.merlin.specs.declared.fair.FairReply.TheVariants as fair
 use Rattle.merlin.specs.declared.fairness.FairnessReply.TheVariants as fairness
 use Rattle.merlin.specs.declared.trace.TraceReply.TheVariants as trace
+use Rattle.merlin.specs.declared.wire.WireReply.TheVariants as wire
+use Rattle.merlin.specs.declared.unwire.UnwireReply.TheVariants as unwire
 use Rattle.merlin.proofs.Unique.{IsForm-same, AreContents-same, AreContents-short}
 
 -- No reply has one of these statuses.
@@ -54,6 +55,15 @@ not_other Tracing (trace.UnknownHost name) h = h
 not_other Tracing (trace.BadPacket at) h = h
 not_other Tracing (trace.Ended lines) h = h
 not_other Tracing trace.StillRunning h = h
+not_other Wiring (wire.BadTopology fault) h = h
+not_other Wiring (wire.BadResult at) h = h
+not_other Wiring (wire.UnknownSwitch name) h = h
+not_other Wiring (wire.Written lines) h = h
+not_other Unwiring (unwire.BadTopology fault) h = h
+not_other Unwiring (unwire.UnknownSwitch name) h = h
+not_other Unwiring (unwire.NoDigits number) h = h
+not_other Unwiring (unwire.BadMessage number at) h = h
+not_other Unwiring (unwire.Written lines) h = h
 
 other : {A : Type 0} (form : Form) (reply : Reply form) (ended wanted : Status) → ended ≡ wanted
     → ended ≡ reply_status form reply → IsOther wanted → A

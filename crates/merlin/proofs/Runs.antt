@@ -23,14 +23,19 @@ use Rattle.merlin.specs.Fairness.{FairnessForm, fairness_files, fairness_lines, 
 use Rattle.merlin.specs.Refine.{RefineForm}
 use Rattle.merlin.specs.Refinings.{HasRefined, HasFoundWider}
 use Rattle.merlin.proofs.Refining.{refined_by, wider_by}
-use Rattle.merlin.specs.Commands.{CommandName, Compiling, Refining, Refuting, Dividing, Judging, meaning_of, Form, Reply, IsForm, files_of, Means, reply_lines, reply_status}
+use Rattle.merlin.specs.Commands.{CommandName, Compiling, Refining, Refuting, Dividing, Judging, meaning_of, Form, Reply, IsForm, files_of, Means, reply_lines, reply_status, Tracing, Wiring, Unwiring}
 use Rattle.merlin_model.specs.Functions.{Behaviour}
 use Rattle.merlin.specs.declared.trace.TraceReply.{TraceReply}
 use Rattle.merlin.specs.declared.trace.TraceReply.TheVariants as trace
+use Rattle.merlin.specs.declared.wire.WireReply.{WireReply}
+use Rattle.merlin.specs.declared.wire.WireReply.TheVariants as wire
+use Rattle.merlin.specs.declared.unwire.UnwireReply.{UnwireReply}
+use Rattle.merlin.specs.declared.unwire.UnwireReply.TheVariants as unwire
+use Rattle.merlin.specs.Wire.{WireForm, wire_files, wire_lines, wire_status, HasMessages, IsWireReply}
+use Rattle.merlin.specs.Unwire.{UnwireForm, unwire_files, unwire_lines, unwire_status, HasSwitch, HasRules, IsUnwireReply}
 use Rattle.merlin.specs.Trace.{TraceForm, trace_files, trace_lines, trace_status, HasEnded, HasNoEnd, IsTraceReply}
-use Rattle.merlin.specs.Commands.{CommandName, Compiling, Refuting, Dividing, Judging, Tracing, meaning_of, Form, Reply, IsForm, files_of, Means, reply_lines, reply_status}
 use Rattle.merlin.specs.Outcome.{World, Taking, IsReplied, IsOfRepliesAlone, SaysByStatus}
-use Rattle.merlin.specs.Runs.{HasCompiled, HasChecked, HasRefuted, HasFoundFailure, HasDivided, HasFoundSound, HasFoundUnsound, HasTraced, HasFoundNoEnd, KeepsPromises}
+use Rattle.merlin.specs.Runs.{HasCompiled, HasChecked, HasRefuted, HasFoundFailure, HasDivided, HasFoundSound, HasFoundUnsound, HasTraced, HasFoundNoEnd, HasWritten, HasWired, HasUnwired, KeepsPromises}
 use Rattle.merlin.proofs.Unique.{IsForm-same}
 
 done_refused : {A : Type 0} → status.Done ≡ status.Refused → A
@@ -148,6 +153,31 @@ was_endless behaviour form contents (trace.Ended lines) means e = done_running (
 was_endless behaviour form contents trace.StillRunning (t, r, two, hops) e =
     record { first = t; second = r; two = two; holds = hops; is = refl }
 
+record WasWritten (contents lines : List (List ℕ)) (Holds : List ℕ → List ℕ → List (List ℕ) → Type 0) : Type 0 where
+  first : List ℕ
+  second : List ℕ
+  two : contents ≡ first ∷ second ∷ []
+  told : List (List ℕ)
+  holds : Holds first second told
+  is : lines ≡ told
+
+was_wired : (form : WireForm) (contents : List (List ℕ)) (reply : WireReply) → IsWireReply form contents reply
+    → status.Done ≡ wire_status reply → WasWritten contents (wire_lines reply) (HasMessages form)
+was_wired form contents (wire.BadTopology fault) means e = done_refused e
+was_wired form contents (wire.BadResult place) means e = done_refused e
+was_wired form contents (wire.UnknownSwitch name) means e = done_refused e
+was_wired form contents (wire.Written lines) (t, r, two, has) e =
+    record { first = t; second = r; two = two; told = lines.items; holds = has; is = refl }
+
+was_unwired : (form : UnwireForm) (contents : List (List ℕ)) (reply : UnwireReply) → IsUnwireReply form contents reply
+    → status.Done ≡ unwire_status reply → WasWritten contents (unwire_lines reply) (λ t m lines. HasSwitch form t (HasRules m lines))
+was_unwired form contents (unwire.BadTopology fault) means e = done_refused e
+was_unwired form contents (unwire.UnknownSwitch name) means e = done_refused e
+was_unwired form contents (unwire.NoDigits number) means e = done_refused e
+was_unwired form contents (unwire.BadMessage number place) means e = done_refused e
+was_unwired form contents (unwire.Written lines) (t, m, two, has) e =
+    record { first = t; second = m; two = two; told = lines.items; holds = has; is = refl }
+
 -- The same of a run.
 
 module _ (world : World) (sink : Taking) (ended : Status) where
@@ -249,6 +279,28 @@ module _ (world : World) (sink : Taking) (ended : Status) where
   endless form e contents are reply means same grows =
       checked trace_lines (trace_files form) contents reply trace.StillRunning (λ t r. HasNoEnd world.behaviour form t r) (was_endless world.behaviour form contents reply means (sym e ∙ same)) are grows
 
+  wrote : (files : List (List ℕ × ℕ)) (contents lines : List (List ℕ)) (Holds : List ℕ → List ℕ → List (List ℕ) → Type 0)
+      → WasWritten contents lines Holds → AreContents world.known files contents → Grows sink.before sink.after (joined lines)
+      → HasWritten world sink files Holds
+  wrote files contents lines Holds was are grows = record {
+    first = was.first;
+    second = was.second;
+    are_contents = subst (AreContents world.known files) was.two are;
+    lines = was.told;
+    holds = was.holds;
+    written = subst (λ ls. Grows sink.before sink.after (joined ls)) was.is grows;
+  }
+
+  wired : (form : WireForm) → ended ≡ status.Done
+      → Gives (HasWired world sink form) (record { name = Wiring; request = form })
+  wired form e contents are reply means same grows =
+      wrote (wire_files form) contents (wire_lines reply) (HasMessages form) (was_wired form contents reply means (sym e ∙ same)) are grows
+
+  unwired : (form : UnwireForm) → ended ≡ status.Done
+      → Gives (HasUnwired world sink form) (record { name = Unwiring; request = form })
+  unwired form e contents are reply means same grows =
+      wrote (unwire_files form) contents (unwire_lines reply) (λ t m lines. HasSwitch form t (HasRules m lines)) (was_unwired form contents reply means (sym e ∙ same)) are grows
+
   -- a status that replies alone have is that of a reply
   of_reply : (fact : Type 0) (words : List (List ℕ)) (name : CommandName) (request : (meaning_of name).Request) (known : Status)
       → IsOfRepliesAlone known → ended ≡ known → Gives fact (record { name = name; request = request })
@@ -270,4 +322,6 @@ KeepsPromises-from_outcome world sink words ended says =
       unsound = λ form is e. of_reply world sink ended _ words Judging form status.CheckNo tt e (unsound world sink ended form e) is says;
       traced = λ form is e. of_reply world sink ended _ words Tracing form status.Done tt e (traced world sink ended form e) is says;
       endless = λ form is e. of_reply world sink ended _ words Tracing form status.StillRunning tt e (endless world sink ended form e) is says;
+      wired = λ form is e. of_reply world sink ended _ words Wiring form status.Done tt e (wired world sink ended form e) is says;
+      unwired = λ form is e. of_reply world sink ended _ words Unwiring form status.Done tt e (unwired world sink ended form e) is says;
     }

@@ -12,9 +12,10 @@ use Rattle.merlin.specs.Refine.{RefineForm, IsRefineForm}
 use Rattle.merlin.specs.Refute.{RefuteForm, IsRefuteForm}
 use Rattle.merlin.specs.Fair.{FairForm, IsFairForm}
 use Rattle.merlin.specs.Fairness.{FairnessForm, IsFairnessForm}
-use Rattle.merlin.specs.Commands.{CommandName, Compiling, Refining, Refuting, Dividing, Judging, meaning_of, Form, IsForm}
+use Rattle.merlin.specs.Commands.{CommandName, Compiling, Refining, Refuting, Dividing, Judging, meaning_of, Form, IsForm, Tracing, Wiring, Unwiring}
 use Rattle.merlin.specs.Trace.{TraceForm, IsTraceForm}
-use Rattle.merlin.specs.Commands.{CommandName, Compiling, Refuting, Dividing, Judging, Tracing, meaning_of, Form, IsForm}
+use Rattle.merlin.specs.Wire.{WireForm, IsWireForm}
+use Rattle.merlin.specs.Unwire.{UnwireForm, IsUnwireForm}
 use Rattle.merlin.specs.Reading.{AreContents, IsFirstTooLong}
 
 unlike : {A : Type 0} (x y : ℕ) (xs ys : List ℕ) → x ∷ xs ≡ y ∷ ys → (x ≡ y → ⊥) → A
@@ -92,6 +93,22 @@ IsTraceForm-same words f g e e' =
     let packet : f.packet ≡ g.packet = cc in
     λ i. record { topology = topology i; result = result i; host = host i; packet = packet i }
 
+IsWireForm-same : (words : List (List ℕ)) (f g : WireForm) → IsWireForm words f
+    → IsWireForm words g → f ≡ g
+IsWireForm-same words f g e e' =
+    let topology : f.topology ≡ g.topology = cc in
+    let result : f.result ≡ g.result = cc in
+    let switch : f.switch ≡ g.switch = cc in
+    λ i. record { topology = topology i; result = result i; switch = switch i }
+
+IsUnwireForm-same : (words : List (List ℕ)) (f g : UnwireForm) → IsUnwireForm words f
+    → IsUnwireForm words g → f ≡ g
+IsUnwireForm-same words f g e e' =
+    let topology : f.topology ≡ g.topology = cc in
+    let switch : f.switch ≡ g.switch = cc in
+    let messages : f.messages ≡ g.messages = cc in
+    λ i. record { topology = topology i; switch = switch i; messages = messages i }
+
 request_same : (name : CommandName) (words : List (List ℕ)) (f g : (meaning_of name).Request)
     → (meaning_of name).IsRequest words f → (meaning_of name).IsRequest words g → f ≡ g
 request_same Compiling = IsCompileForm-same
@@ -100,6 +117,8 @@ request_same Refuting = IsRefuteForm-same
 request_same Dividing = IsFairForm-same
 request_same Judging = IsFairnessForm-same
 request_same Tracing = IsTraceForm-same
+request_same Wiring = IsWireForm-same
+request_same Unwiring = IsUnwireForm-same
 
 -- The words are one form: each command begins with its own word.
 
@@ -110,7 +129,9 @@ name_of_word word =
     if bytes_eq word (codes "refute") then Some Refuting else
     if bytes_eq word (codes "fair") then Some Dividing else
     if bytes_eq word (codes "fairness") then Some Judging else
-    if bytes_eq word (codes "trace") then Some Tracing else None
+    if bytes_eq word (codes "trace") then Some Tracing else
+    if bytes_eq word (codes "wire") then Some Wiring else
+    if bytes_eq word (codes "unwire") then Some Unwiring else None
 
 name_of_its_word : (name : CommandName) → name_of_word (meaning_of name).word ≡ Some name
 name_of_its_word Compiling = refl
@@ -119,6 +140,8 @@ name_of_its_word Refuting = refl
 name_of_its_word Dividing = refl
 name_of_its_word Judging = refl
 name_of_its_word Tracing = refl
+name_of_its_word Wiring = refl
+name_of_its_word Unwiring = refl
 
 begins : (name : CommandName) (words : List (List ℕ)) (request : (meaning_of name).Request)
     → (meaning_of name).IsRequest words request
@@ -129,6 +152,8 @@ begins Refuting words request e = (_, e)
 begins Dividing words request e = (_, e)
 begins Judging words request e = (_, e)
 begins Tracing words request e = (_, e)
+begins Wiring words request e = (_, e)
+begins Unwiring words request e = (_, e)
 
 Some-inj : {X : Type 0} {x y : X} → Some x ≡ Some y → x ≡ y
 Some-inj {x = x} e = ap (λ o. unwrap_or o x) e

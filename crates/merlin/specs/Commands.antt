@@ -10,12 +10,16 @@ use Rattle.merlin.specs.declared.refute.RefuteReply.{RefuteReply}
 use Rattle.merlin.specs.declared.fair.FairReply.{FairReply}
 use Rattle.merlin.specs.declared.fairness.FairnessReply.{FairnessReply}
 use Rattle.merlin.specs.declared.trace.TraceReply.{TraceReply}
+use Rattle.merlin.specs.declared.wire.WireReply.{WireReply}
+use Rattle.merlin.specs.declared.unwire.UnwireReply.{UnwireReply}
 use Rattle.merlin.specs.Compile.{CompileForm, IsCompileForm, compile_files, IsCompileReply, compile_lines, compile_status, compile_form}
 use Rattle.merlin.specs.Refine.{RefineForm, IsRefineForm, refine_files, IsRefineReply, refine_lines, refine_status, refine_form}
 use Rattle.merlin.specs.Refute.{RefuteForm, IsRefuteForm, refute_files, IsRefuteReply, refute_lines, refute_status, refute_form}
 use Rattle.merlin.specs.Fair.{FairForm, IsFairForm, fair_files, IsFairReply, fair_lines, fair_status, fair_form}
 use Rattle.merlin.specs.Fairness.{FairnessForm, IsFairnessForm, fairness_files, IsFairnessReply, fairness_lines, fairness_status, fairness_form}
 use Rattle.merlin.specs.Trace.{TraceForm, IsTraceForm, trace_files, IsTraceReply, trace_lines, trace_status, trace_form}
+use Rattle.merlin.specs.Wire.{WireForm, IsWireForm, wire_files, IsWireReply, wire_lines, wire_status, wire_form}
+use Rattle.merlin.specs.Unwire.{UnwireForm, IsUnwireForm, unwire_files, IsUnwireReply, unwire_lines, unwire_status, unwire_form}
 
 pub data CommandName : Type 0 where
   Compiling : CommandName
@@ -24,6 +28,8 @@ pub data CommandName : Type 0 where
   Dividing : CommandName
   Judging : CommandName
   Tracing : CommandName
+  Wiring : CommandName
+  Unwiring : CommandName
 
 -- What a command is: the word that stands first, what its words may ask for, its files in the order
 -- of the words, each with the most bytes that it may have, what may be replied, what a reply means of
@@ -99,6 +105,26 @@ meaning_of Tracing = record {
   lines = trace_lines;
   status = trace_status;
 }
+meaning_of Wiring = record {
+  word = codes "wire";
+  Request = WireForm;
+  IsRequest = IsWireForm;
+  files = wire_files;
+  ReplyTo = WireReply;
+  IsReply = λ behaviour. IsWireReply;
+  lines = wire_lines;
+  status = wire_status;
+}
+meaning_of Unwiring = record {
+  word = codes "unwire";
+  Request = UnwireForm;
+  IsRequest = IsUnwireForm;
+  files = unwire_files;
+  ReplyTo = UnwireReply;
+  IsReply = λ behaviour. IsUnwireReply;
+  lines = unwire_lines;
+  status = unwire_status;
+}
 
 -- a command, as its words ask for it
 pub record Form : Type 0 where
@@ -112,6 +138,8 @@ form_of (commands.Refute words) = record { name = Refuting; request = refute_for
 form_of (commands.Fair words) = record { name = Dividing; request = fair_form words }
 form_of (commands.Fairness words) = record { name = Judging; request = fairness_form words }
 form_of (commands.Trace words) = record { name = Tracing; request = trace_form words }
+form_of (commands.Wire words) = record { name = Wiring; request = wire_form words }
+form_of (commands.Unwire words) = record { name = Unwiring; request = unwire_form words }
 
 -- the words ask for this
 abbrev pub IsForm : List (List ℕ) → Form → Type 0

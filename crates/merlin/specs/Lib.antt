@@ -12,6 +12,9 @@ pub mod Fairness
 pub mod Inputs
 pub mod Trace
 pub mod Tracing
+pub mod Wire
+pub mod Unwire
+pub mod Messages
 pub mod Commands
 pub mod Outcome
 pub mod Parts

@@ -70,7 +70,7 @@ IsAnswerTo world words (Replied form reply) =
 -- The lines of an answer, and its status.
 
 abbrev pub usage_text : List ℕ
-usage_text = codes "usage: compile POLICY TOPOLOGY shortest|ratio|reserved [BUDGET]; check POLICY TOPOLOGY RESULT; trace TOPOLOGY RESULT HOST PACKET; refine PARENT CHILD TOPOLOGY; refute PROGRAM TREE; grow N; fair DEMANDS; fairness DEMANDS SHARES"
+usage_text = codes "usage: compile POLICY TOPOLOGY shortest|ratio|reserved [BUDGET]; check POLICY TOPOLOGY RESULT; trace TOPOLOGY RESULT HOST PACKET; refine PARENT CHILD TOPOLOGY; refute PROGRAM TREE; grow N; wire TOPOLOGY RESULT SWITCH; unwire TOPOLOGY SWITCH MESSAGES; fair DEMANDS; fairness DEMANDS SHARES"
 
 abbrev pub answer_lines : Answer → List (List ℕ)
 answer_lines NoForm = line usage_text ∷ []

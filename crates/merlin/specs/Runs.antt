@@ -14,6 +14,8 @@ use Rattle.merlin.specs.Fair.{FairForm, IsFairForm, fair_files, IsDivided}
 use Rattle.merlin.specs.Fairness.{FairnessForm, IsFairnessForm, fairness_files, fairness_lines, HasSoundShares, HasUnsoundShares}
 use Rattle.merlin.specs.Trace.{TraceForm, IsTraceForm, trace_files, trace_lines, HasEnded, HasNoEnd}
 use Rattle.merlin.specs.declared.trace.TraceReply.TheVariants.{StillRunning}
+use Rattle.merlin.specs.Wire.{WireForm, IsWireForm, wire_files, HasMessages}
+use Rattle.merlin.specs.Unwire.{UnwireForm, IsUnwireForm, unwire_files, HasSwitch, HasRules}
 use Rattle.merlin_base.specs.declared.status.Status.{Status}
 use Rattle.merlin_base.specs.declared.status.Status.TheVariants as status
 use Rattle.merlin.specs.Outcome.{World, Taking}
@@ -84,13 +86,33 @@ HasFoundNoEnd world sink form =
     HasChecked world sink (trace_files form) (trace_lines StillRunning)
     (λ topology result. HasNoEnd world.behaviour form topology result)
 
+-- The sink took lines of which this holds, beside the texts of the two files.
+pub record HasWritten (world : World) (sink : Taking) (files : List (List ℕ × ℕ))
+    (Holds : List ℕ → List ℕ → List (List ℕ) → Type 0) : Type 0 where
+  pub first : List ℕ
+  pub second : List ℕ
+  pub are_contents : AreContents world.known files (first ∷ second ∷ [])
+  pub lines : List (List ℕ)
+  pub holds : Holds first second lines
+  pub written : Grows sink.before sink.after (joined lines)
+
+-- The sink took the messages of the switch's rules.
+abbrev pub HasWired : World → Taking → WireForm → Type 0
+HasWired world sink form = HasWritten world sink (wire_files form) (HasMessages form)
+
+-- The sink took the rules of the messages, and each line of the file is one.
+abbrev pub HasUnwired : World → Taking → UnwireForm → Type 0
+HasUnwired world sink form = HasWritten world sink (unwire_files form)
+    (λ topology messages lines. HasSwitch form topology (HasRules messages lines))
+
 -- What a reader asks of each command. To compile: with Done the sink took exactly the text of a
 -- result that keeps its promise. To refute: with
 -- Done the program has no solution, and with CheckNo the first node that fails was named. To divide:
 -- with Done the division is the best. To judge: with Done it is, and with CheckNo the first tenant at
 -- fault was named. To refine: with Done the child refines the parent, and with RefineNo the first rule
 -- that fails was named. To trace: with Done the lines are those of the machine's run to its end, and
--- with StillRunning the machine makes the most hops.
+-- with StillRunning the machine makes the most hops. To wire: with Done the lines are the messages of
+-- the switch's rules. To unwire: with Done the lines are the rules of the messages.
 pub record KeepsPromises (world : World) (sink : Taking) (words : List (List ℕ)) (ended : Status)
     : Type 0 where
   pub compiled : (form : CompileForm) → IsCompileForm words form → ended ≡ status.Done
@@ -113,3 +135,7 @@ pub record KeepsPromises (world : World) (sink : Taking) (words : List (List ℕ
       → HasTraced world sink form
   pub endless : (form : TraceForm) → IsTraceForm words form → ended ≡ status.StillRunning
       → HasFoundNoEnd world sink form
+  pub wired : (form : WireForm) → IsWireForm words form → ended ≡ status.Done
+      → HasWired world sink form
+  pub unwired : (form : UnwireForm) → IsUnwireForm words form → ended ≡ status.Done
+      → HasUnwired world sink form

@@ -15,6 +15,8 @@ use crate::refine::{Refine, files_to_refine, refine_of, refine_report};
 use crate::refute::{Refute, files_to_refute, refute_of, refute_report};
 use crate::report::Report;
 use crate::trace::{Tracing, files_to_trace, trace_of, trace_report};
+use crate::unwire::{Unwire, files_to_unwire, unwire_of, unwire_report};
+use crate::wire::{Wire, files_to_wire, wire_of, wire_report};
 use merlin_base::{Files, OutOfMemory};
 use packet_model::Packet;
 use std::alloc::Global;
@@ -29,6 +31,8 @@ pub enum Command<'a> {
     Fair(Fair<'a>),
     Fairness(Fairness<'a>),
     Trace(Tracing<'a>),
+    Wire(Wire<'a>),
+    Unwire(Unwire<'a>),
 }
 
 /// The command that the words are, if they are one.
@@ -54,6 +58,12 @@ pub fn command_of(words: &[String]) -> Option<Command<'_>>
     if let Some(command) = trace_of(words) {
         return Some(Command::Trace(command));
     }
+    if let Some(command) = wire_of(words) {
+        return Some(Command::Wire(command));
+    }
+    if let Some(command) = unwire_of(words) {
+        return Some(Command::Unwire(command));
+    }
     None
 }
 
@@ -77,6 +87,8 @@ pub fn contents_for<F: Files>(
         Command::Fair(words) => read_files(alloc, files, &files_to_divide(words)),
         Command::Fairness(words) => read_files(alloc, files, &files_to_judge(words)),
         Command::Trace(words) => read_files(alloc, files, &files_to_trace(words)),
+        Command::Wire(words) => read_files(alloc, files, &files_to_wire(words)),
+        Command::Unwire(words) => read_files(alloc, files, &files_to_unwire(words)),
     }
 }
 
@@ -99,5 +111,7 @@ pub fn report_over<A: Fn(&FnDecl, Packet) -> Packet + Drop>(
         Command::Fair(_) => fair_report(alloc, contents),
         Command::Fairness(_) => fairness_report(alloc, contents),
         Command::Trace(words) => trace_report(alloc, words, contents, apply),
+        Command::Wire(words) => wire_report(alloc, words, contents),
+        Command::Unwire(words) => unwire_report(alloc, words, contents),
     }
 }

@@ -1,13 +1,14 @@
 //! What several commands read: a topology, and a result over it.
-ghost use Rattle.std.specs.Prelude.{◌≡◌, IfOk};
+ghost use Rattle.std.specs.Prelude.{◌≡◌, ℕ, IfOk, IfSome, IfNone};
 ghost use Rattle.merlin.specs.Refusals.{location_name as location_name_of};
 ghost use Rattle.merlin.specs.Inputs.{wrong_topology_lines as lines_of_topology, wrong_result_lines as lines_of_result};
+ghost use Rattle.merlin.specs.Wire.{IsSwitchNamed, unknown_switch_lines as lines_of_switch};
 
 use crate::refusals::net_fault_text;
 use crate::report::{named_line, numbered_line};
 use merlin_base::{Name, OutOfMemory};
 use std::alloc::Global;
-use topology::{NetFault, Topology};
+use topology::{NetFault, Place, Topology};
 
 /// The name of a location, and no byte where there is none.
 pub fn location_name(net: &Topology, loc: usize) -> &[u8]
@@ -33,4 +34,25 @@ pub fn wrong_result_lines(alloc: Global, at: usize) -> Result<Vec<Name>, OutOfMe
     ensures { IfOk result (λ lines. lines.items ≡ lines_of_result at) }
 {
     numbered_line(alloc, "refused: result at ", at)
+}
+
+/// The switch that bears the name.
+pub fn switch_named(net: &Topology, name: &[u8]) -> Option<usize>
+    ensures some { IfSome result (IsSwitchNamed net.now name.now) }
+    ensures none { IfNone result ((switch : ℕ) → ¬ IsSwitchNamed net.now name.now switch) }
+{
+    // No two locations bear one name.
+    let _locations = net.locations();
+    let loc = net.find(name)?;
+    match net.place(loc) {
+        Place::Switch => Some(loc),
+        Place::Host | Place::Middlebox => None,
+    }
+}
+
+/// What is said of a word that names no switch.
+pub fn unknown_switch_lines(alloc: Global, name: &Name) -> Result<Vec<Name>, OutOfMemory>
+    ensures { IfOk result (λ lines. lines.items ≡ lines_of_switch name.now) }
+{
+    named_line(alloc, "refused: unknown switch ", name)
 }

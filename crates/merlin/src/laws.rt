@@ -1,7 +1,7 @@
 //! Which replies the contents of files have. Each law is the contract of a function that does
 //! nothing.
 
-ghost use Rattle.std.specs.Prelude.{◌≡◌, ◌<◌, ◌∷◌, [], ℕ, List, length};
+ghost use Rattle.std.specs.Prelude.{◌≡◌, ◌<◌, ◌^◌, ◌∷◌, [], ℕ, List, length};
 ghost use Rattle.merlin_base.specs.declared.status.Status.TheVariants as status;
 ghost use Rattle.merlin_model.specs.Networks.{Network};
 ghost use Rattle.merlin_model.specs.Programs.{Program};
@@ -37,8 +37,17 @@ ghost use Rattle.packet_trace.specs.declared.trace.TheConstants.{MAX_HOPS};
 ghost use Rattle.packet_trace.specs.Trace.{MakesHopsBy};
 ghost use Rattle.merlin.specs.declared.trace.TraceReply.{TraceReply};
 ghost use Rattle.merlin.specs.declared.trace.TraceReply.TheVariants as trace;
+ghost use Rattle.merlin_base.specs.Texts.{joined};
+ghost use Rattle.config_read.specs.declared.result.ResultText.{ResultText};
+ghost use Rattle.config_read.specs.Answers.{IsTextOfResult};
+ghost use Rattle.merlin.specs.declared.wire.WireReply.{WireReply};
+ghost use Rattle.merlin.specs.Inputs.{AreNetworkAndResult};
+ghost use Rattle.merlin.specs.Wire.{WireForm, IsSwitchNamed, rules_at, message_lines};
+ghost use Rattle.merlin.specs.Wire.{IsWireReply, wire_lines, wire_status};
+ghost use Rattle.merlin.specs.Unwire.{BeginsWithMessages};
 ghost use Rattle.merlin.specs.Trace.{TraceForm, IsTracedFrom, IsTraceReply, run_lines, trace_lines, trace_status};
 
+use openflow_wire::message_is_read_back;
 use topology_rules::laws::one_network;
 
 /// A policy that compiles over its network is done. In any case two replies to the same files have one
@@ -143,4 +152,28 @@ pub fn trace_replies()
         trace_status other ≡ trace_status reply }
 {
     one_network();
+}
+
+/// A switch of the network has its messages. In any case two replies to the same files and words have one status.
+pub fn wire_replies()
+    ensures written { (form : WireForm) (topology result : List ℕ) (net : Network)
+        (read : ResultText) (switch : ℕ) (reply : WireReply) →
+        AreNetworkAndResult topology result net read → IsSwitchNamed net form.switch switch →
+        IsWireReply form (topology ∷ result ∷ []) reply → (wire_status reply ≡ status.Done)
+        × (wire_lines reply ≡ message_lines 1 (rules_at switch read.config.rules)) }
+    ensures one { (form : WireForm) (contents : List (List ℕ)) (reply other : WireReply) →
+        IsWireReply form contents reply → IsWireReply form contents other →
+        wire_status other ≡ wire_status reply }
+{
+    one_network();
+}
+
+/// The messages that are written of a switch's rules are those of these rules, and of no more.
+pub fn messages_are_read_back()
+    ensures { (net : Network) (bytes : List ℕ) (read : ResultText) (switch : ℕ) →
+        IsTextOfResult net bytes read → length read.config.rules < 2 ^ 32 →
+        BeginsWithMessages switch (joined (message_lines 1 (rules_at switch read.config.rules)))
+        (rules_at switch read.config.rules) [] }
+{
+    message_is_read_back();
 }

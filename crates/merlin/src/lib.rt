@@ -17,7 +17,9 @@ mod refute;
 mod report;
 mod trace;
 mod trace_lines;
+mod unwire;
 mod wider;
+mod wire;
 
 pub use compile::{DEFAULT_BUDGET, MAX_BUDGET};
 pub use compiler::{Compiled, EarlyFault, compile_policy};

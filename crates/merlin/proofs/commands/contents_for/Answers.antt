@@ -36,3 +36,15 @@ returns-in-Trace-clause-ok g c = rw (c.in-Trace.is, sym c.files_to_trace.ensures
 
 pub returns-in-Trace-clause-err : goal.returns-in-Trace-clause-err
 returns-in-Trace-clause-err g c = rw (c.in-Trace.is, sym c.files_to_trace.ensures) c.read_files-in-Trace.ensures.err
+
+pub returns-in-Wire-clause-ok : goal.returns-in-Wire-clause-ok
+returns-in-Wire-clause-ok g c = rw (c.in-Wire.is, sym c.files_to_wire.ensures) c.read_files-in-Wire.ensures.ok
+
+pub returns-in-Wire-clause-err : goal.returns-in-Wire-clause-err
+returns-in-Wire-clause-err g c = rw (c.in-Wire.is, sym c.files_to_wire.ensures) c.read_files-in-Wire.ensures.err
+
+pub returns-in-Unwire-clause-ok : goal.returns-in-Unwire-clause-ok
+returns-in-Unwire-clause-ok g c = rw (c.in-Unwire.is, sym c.files_to_unwire.ensures) c.read_files-in-Unwire.ensures.ok
+
+pub returns-in-Unwire-clause-err : goal.returns-in-Unwire-clause-err
+returns-in-Unwire-clause-err g c = rw (c.in-Unwire.is, sym c.files_to_unwire.ensures) c.read_files-in-Unwire.ensures.err

@@ -42,3 +42,15 @@ trace_report-requires-clause-read g c = many c.requires.read c.in-Trace.is
 
 pub returns-in-Trace : goal.returns-in-Trace
 returns-in-Trace g c = rw c.in-Trace.is c.trace_report.ensures
+
+pub wire_report-requires : goal.wire_report-requires
+wire_report-requires g c = many c.requires.read c.in-Wire.is
+
+pub returns-in-Wire : goal.returns-in-Wire
+returns-in-Wire g c = rw c.in-Wire.is c.wire_report.ensures
+
+pub unwire_report-requires : goal.unwire_report-requires
+unwire_report-requires g c = many c.requires.read c.in-Unwire.is
+
+pub returns-in-Unwire : goal.returns-in-Unwire
+returns-in-Unwire g c = rw c.in-Unwire.is c.unwire_report.ensures

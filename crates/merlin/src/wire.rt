@@ -1,0 +1,218 @@
+//! The command `wire`.
+ghost use Rattle.std.specs.Prelude.{◌≡◌, ◌++◌, ◌∷◌, [], ℕ, List, length, OnOk, IfOk, IfSome, IfNone};
+ghost use Rattle.merlin_model.specs.declared.config.Rule.{Rule as Stated};
+ghost use Rattle.std.specs.List.{All};
+ghost use Rattle.openflow_wire.specs.Rules.{IsRule};
+ghost use Rattle.topology_rules.specs.Faults.{IsTopology};
+ghost use Rattle.merlin.specs.Words.{word_texts};
+ghost use Rattle.merlin.specs.Reading.{files_wanted, texts_read};
+ghost use Rattle.merlin.specs.Reports.{IsReportWith};
+ghost use Rattle.merlin.specs.Inputs.{AreNetworkAndResult};
+ghost use Rattle.merlin.specs.Wire.{WireForm, IsWireForm, wire_form, wire_files};
+ghost use Rattle.merlin.specs.Wire.{rules_at, message_line, message_lines, Wires, IsWireReply};
+ghost use Rattle.merlin.specs.Wire.{wire_lines as lines_of_reply, wire_status};
+
+use crate::inputs::{switch_named, unknown_switch_lines, wrong_result_lines, wrong_topology_lines};
+use crate::reading::{RESULT_LIMIT, TEXT_LIMIT, Wanted};
+use crate::report::Report;
+use config_read::{ConfigFault, ResultText, read as read_result};
+use merlin_base::{Name, OutOfMemory, Status, name_from};
+use merlin_model::config::Rule;
+use openflow_wire::encode;
+use std::alloc::Global;
+use topology::{NetFault, Topology, read as read_topology};
+
+/// A command to write the messages of a switch.
+#[derive(Clone, Copy)]
+pub struct Wire<'a> {
+    pub topology: &'a str,
+    pub result: &'a str,
+    pub switch: &'a str,
+}
+
+/// What is replied to it. `Written` has a line for each message.
+#[derive(Drop)]
+pub enum WireReply {
+    BadTopology(NetFault),
+    BadResult(usize),
+    UnknownSwitch(Name),
+    Written(Vec<Name>),
+}
+
+/// The command to write messages that the words are, if they are one.
+pub fn wire_of(words: &[String]) -> Option<Wire<'_>>
+    ensures some { IfSome result (λ command.
+        IsWireForm (word_texts words.now) (wire_form command)) }
+    ensures none { IfNone result ((form : WireForm) →
+        ¬ IsWireForm (word_texts words.now) form) }
+{
+    let [command, topology, result, switch] = words else {
+        return None;
+    };
+    if command.as_str() != "wire" {
+        return None;
+    }
+    Some(Wire {
+        topology: topology.as_str(),
+        result: result.as_str(),
+        switch: switch.as_str(),
+    })
+}
+
+/// Its files.
+pub fn files_to_wire<'a>(command: Wire<'a>) -> [Wanted<'a>; 2]
+    ensures { files_wanted result ≡ wire_files (wire_form command.entry) }
+{
+    [
+        Wanted {
+            name: command.topology,
+            limit: TEXT_LIMIT,
+        },
+        Wanted {
+            name: command.result,
+            limit: RESULT_LIMIT,
+        },
+    ]
+}
+
+// The line of a rule's message. A message has 32 bits for its number, and no result has as many lines.
+fn line_of_message(alloc: Global, rule: &Rule, number: usize) -> Result<Name, OutOfMemory>
+    requires { IsRule rule.now }
+    ensures { IfOk result (λ name. name ≡ message_line rule.now number) }
+{
+    let message = encode(alloc, rule, (number % 0x1_0000_0000) as u32)?;
+    let digits = hex::encode(alloc, message)?;
+    let text = format!(in alloc; "{digits}\n")?;
+    name_from(alloc, text.as_bytes())
+}
+
+// Adds the line of a rule's message behind those of earlier ones, if the rule is at the switch.
+fn push_message(
+    alloc: Global,
+    lines: &mut Vec<Name>,
+    rule: &Rule,
+    switch: usize,
+) -> Result<(), OutOfMemory>
+    requires { IsRule rule.now }
+    ensures { (rules : List Stated) →
+        lines.old.items ≡ message_lines 1 (rules_at switch rules) → OnOk result
+        (lines.new.items ≡ message_lines 1 (rules_at switch (rules ++ rule.now ∷ []))) }
+{
+    if rule.loc == switch {
+        let number = lines.len() + 1;
+        lines.push(line_of_message(alloc, rule, number)?)?;
+    }
+    Ok(())
+}
+
+// The lines of the messages of a switch's rules.
+fn lines_of_messages(alloc: Global, rules: &[Rule], switch: usize) -> Result<Vec<Name>, OutOfMemory>
+    requires { All IsRule rules.now }
+    ensures { IfOk result (λ lines. lines.items ≡ message_lines 1 (rules_at switch rules.now)) }
+{
+    let mut lines = Vec::new(alloc);
+    for rule in rules {
+        push_message(alloc, &mut lines, rule, switch)?;
+    }
+    Ok(lines)
+}
+
+// What is replied where the result is read, whatever texts it and the network come from.
+fn reply_over_result(
+    alloc: Global,
+    net: &Topology,
+    read: &ResultText,
+    name: &str,
+) -> Result<WireReply, OutOfMemory>
+    requires { All IsRule read.now.config.rules }
+    ensures { (form : WireForm) (topology bytes : List ℕ) → form.switch ≡ name.now →
+        AreNetworkAndResult topology bytes net.now read.now →
+        IfOk result (Wires form topology bytes) }
+{
+    let Some(switch) = switch_named(net, name.as_bytes()) else {
+        return Ok(WireReply::UnknownSwitch(name_from(alloc, name.as_bytes())?));
+    };
+    let lines = lines_of_messages(alloc, read.config.rules.as_slice(), switch)?;
+    Ok(WireReply::Written(lines))
+}
+
+// What is replied where the network is read, whatever text it comes from.
+fn reply_over_network(
+    alloc: Global,
+    net: &Topology,
+    bytes: &[u8],
+    name: &str,
+) -> Result<WireReply, OutOfMemory>
+    ensures { (form : WireForm) (topology : List ℕ) → form.switch ≡ name.now →
+        IsTopology topology net.now → IfOk result (Wires form topology bytes.now) }
+{
+    match read_result(alloc, bytes, net) {
+        Ok(read) => reply_over_result(alloc, net, &read, name),
+        Err(ConfigFault::BadConfig { at }) => Ok(WireReply::BadResult(at)),
+        Err(ConfigFault::OutOfMemory) => Err(OutOfMemory),
+    }
+}
+
+// What is replied to a topology and a result.
+fn wire_reply(
+    alloc: Global,
+    topology: &[u8],
+    bytes: &[u8],
+    command: Wire,
+) -> Result<WireReply, OutOfMemory>
+    ensures { IfOk result (Wires (wire_form command.entry) topology.now bytes.now) }
+{
+    match read_topology(alloc, topology) {
+        Ok(net) => reply_over_network(alloc, &net, bytes, command.switch),
+        Err(NetFault::OutOfMemory) => Err(OutOfMemory),
+        Err(fault) => Ok(WireReply::BadTopology(fault)),
+    }
+}
+
+fn lines_of(alloc: Global, reply: WireReply) -> Result<Vec<Name>, OutOfMemory>
+    ensures { IfOk result (λ lines. lines.items ≡ lines_of_reply reply) }
+{
+    match reply {
+        WireReply::BadTopology(fault) => wrong_topology_lines(alloc, &fault),
+        WireReply::BadResult(at) => wrong_result_lines(alloc, at),
+        WireReply::UnknownSwitch(name) => unknown_switch_lines(alloc, &name),
+        WireReply::Written(lines) => Ok(lines),
+    }
+}
+
+fn status_of(reply: &WireReply) -> Status
+    ensures { result ≡ wire_status reply.now }
+{
+    match reply {
+        WireReply::BadTopology(_) | WireReply::BadResult(_) | WireReply::UnknownSwitch(_) => {
+            Status::Refused
+        }
+        WireReply::Written(_) => Status::Done,
+    }
+}
+
+// What is reported of a reply.
+fn report_on(alloc: Global, reply: WireReply) -> Result<Report, OutOfMemory>
+    ensures lines { IfOk result (λ report. report.lines.items ≡ lines_of_reply reply) }
+    ensures status { IfOk result (λ report. report.status ≡ wire_status reply) }
+{
+    let status = status_of(&reply);
+    let lines = lines_of(alloc, reply)?;
+    Ok(Report { lines, status })
+}
+
+/// What is reported of the contents of its files.
+pub fn wire_report(
+    alloc: Global,
+    command: Wire,
+    contents: &[Vec<u8>],
+) -> Result<Report, OutOfMemory>
+    requires { length contents.now ≡ 2 }
+    ensures { let is_reply = IsWireReply (wire_form command.entry) (texts_read contents.now) in
+        IfOk result (IsReportWith is_reply lines_of_reply wire_status) }
+{
+    match wire_reply(alloc, &contents[0], &contents[1], command) {
+        Ok(reply) => report_on(alloc, reply),
+        Err(OutOfMemory) => Err(OutOfMemory),
+    }
+}

@@ -15,12 +15,14 @@ use Rattle.packet_trace.specs.Trace.{MakesHopsBy}
 use Rattle.config_read.specs.Answers.{IsTextOfResult, IsConfigFault}
 use Rattle.config_read.specs.declared.fault.ConfigFault.TheVariants.{BadConfig}
 use Rattle.config_read.proofs.OneResult.{result_once}
-use Rattle.topology_rules.specs.Faults.{IsTopology}
+use Rattle.topology_rules.specs.Faults.{IsTopology, Refuses as IsRefusedTopology}
+use Rattle.topology_rules.specs.declared.fault.NetFault.{NetFault}
+use Rattle.topology_rules.specs.declared.fault.NetFault.TheVariants as net_faults
 use Rattle.merlin.specs.declared.trace.TraceReply.{TraceReply}
 use Rattle.merlin.specs.declared.trace.TraceReply.TheVariants as replies
 use Rattle.merlin.specs.Inputs.{BearsName}
 use Rattle.merlin.specs.Trace.{TraceForm, IsHostNamed, IsTracedFrom, AreLinesOfRun, run_lines, Traces, IsTraceReply, trace_lines, trace_status}
-use Rattle.merlin.proofs.Compiling.{Known, of_two}
+use Rattle.merlin.proofs.Compiling.{of_two}
 use Rattle.merlin.proofs.Tracing.{one_bearer}
 
 -- Runs.
@@ -81,7 +83,14 @@ module _ (net : Network) (config : Config) (answer : FnDecl → Packet → Packe
 
 -- Texts and words.
 
-module _ (known : Known) (lawful : (bytes : List ℕ) (net : Network) → IsTopology bytes net → IsNetwork net) (form : TraceForm) (topology result : List ℕ) where
+-- A topology stands for one network, and a text that stands for one is not refused.
+pub record KnownNetworks : Type 0 where
+  pub one : (bytes : List ℕ) (net other : Network) → IsTopology bytes net → IsTopology bytes other
+      → net ≡ other
+  pub apart : (bytes : List ℕ) (net : Network) (cause : NetFault) → IsTopology bytes net
+      → IsRefusedTopology cause bytes → cause ≡ net_faults.OutOfMemory
+
+module _ (known : KnownNetworks) (lawful : (bytes : List ℕ) (net : Network) → IsTopology bytes net → IsNetwork net) (form : TraceForm) (topology result : List ℕ) where
   -- what holds of one reading holds of another
   of_traced : (P : Network → Config → Frame → Type 0) (a b : IsTracedFrom form topology result) → P b.net b.read.config (start b.host b.packet) → P a.net a.read.config (start a.host a.packet)
   of_traced P a b holds =
@@ -157,7 +166,7 @@ module _ (known : Known) (lawful : (bytes : List ℕ) (net : Network) → IsTopo
 pub IsTraceReply-traces : (answer : FnDecl → Packet → Packet) (form : TraceForm) (t b : List ℕ) (r : TraceReply) → IsTraceReply (answers_of answer) form (t ∷ b ∷ []) r → Traces (answers_of answer) form t b r
 IsTraceReply-traces answer form t b r (x, y, e, h) = of_two (λ u v. Traces (answers_of answer) form u v r) (t ∷ b ∷ []) t b x y refl e h
 
-pub IsTraceReply-one : Known → ((bytes : List ℕ) (net : Network) → IsTopology bytes net → IsNetwork net) → (answer : FnDecl → Packet → Packet) (form : TraceForm) (contents : List (List ℕ)) (r s : TraceReply)
+pub IsTraceReply-one : KnownNetworks → ((bytes : List ℕ) (net : Network) → IsTopology bytes net → IsNetwork net) → (answer : FnDecl → Packet → Packet) (form : TraceForm) (contents : List (List ℕ)) (r s : TraceReply)
     → IsTraceReply (answers_of answer) form contents r → IsTraceReply (answers_of answer) form contents s → trace_status s ≡ trace_status r
 IsTraceReply-one known lawful answer form contents r s (t, b, e, h) (x, y, e', k) =
     Traces-one known lawful form t b answer r s h (of_two (λ u v. Traces (answers_of answer) form u v s) contents t b x y e e' k)

@@ -26,7 +26,8 @@ use Rattle.merlin.specs.declared.wire.WireReply.TheVariants as wire
 use Rattle.merlin.specs.Inputs.{AreNetworkAndResult, BearsName}
 use Rattle.merlin.specs.Wire.{WireForm, IsSwitchNamed, rules_at, message_line, message_lines, Wires, IsWireReply, wire_lines, wire_status}
 use Rattle.merlin.specs.Unwire.{IsLineOfRule, BeginsWithMessages}
-use Rattle.merlin.proofs.Compiling.{Known, of_two}
+use Rattle.merlin.proofs.Compiling.{of_two}
+use Rattle.merlin.proofs.OneTrace.{KnownNetworks}
 use Rattle.merlin.proofs.Tracing.{one_bearer}
 use Rattle.merlin.proofs.Wiring.{have_rules}
 
@@ -125,7 +126,7 @@ read_back back net bytes read switch is few = record {
 
 -- What is replied is determined by the files and the word.
 
-module _ (known : Known) (lawful : (bytes : List ℕ) (net : Network) → IsTopology bytes net → IsNetwork net) (form : WireForm) (topology result : List ℕ) where
+module _ (known : KnownNetworks) (lawful : (bytes : List ℕ) (net : Network) → IsTopology bytes net → IsNetwork net) (form : WireForm) (topology result : List ℕ) where
   pub Wires-written : (net : Network) (read : ResultText) (switch : ℕ) → AreNetworkAndResult topology result net read → IsSwitchNamed net form.switch switch
       → (reply : WireReply) → Wires form topology result reply → (wire_status reply ≡ status.Done) × (wire_lines reply ≡ message_lines 1 (rules_at switch read.config.rules))
   Wires-written net read switch texts named (wire.BadTopology fault) h = absurd (h.0 (known.apart topology net fault texts.is_network h.1))
@@ -157,6 +158,6 @@ module _ (known : Known) (lawful : (bytes : List ℕ) (net : Network) → IsTopo
 pub IsWireReply-wires : (form : WireForm) (t b : List ℕ) (r : WireReply) → IsWireReply form (t ∷ b ∷ []) r → Wires form t b r
 IsWireReply-wires form t b r (x, y, e, h) = of_two (λ u v. Wires form u v r) (t ∷ b ∷ []) t b x y refl e h
 
-pub IsWireReply-one : Known → ((bytes : List ℕ) (net : Network) → IsTopology bytes net → IsNetwork net) → (form : WireForm) (contents : List (List ℕ)) (r s : WireReply) → IsWireReply form contents r → IsWireReply form contents s → wire_status s ≡ wire_status r
+pub IsWireReply-one : KnownNetworks → ((bytes : List ℕ) (net : Network) → IsTopology bytes net → IsNetwork net) → (form : WireForm) (contents : List (List ℕ)) (r s : WireReply) → IsWireReply form contents r → IsWireReply form contents s → wire_status s ≡ wire_status r
 IsWireReply-one known lawful form contents r s (t, b, e, h) (x, y, e', k) =
     Wires-one known lawful form t b r s h (of_two (λ u v. Wires form u v s) contents t b x y e e' k)

@@ -1,0 +1,6 @@
+mod Assigned
+mod Spent
+mod Answered
+mod Nothing
+mod Owned
+mod Apart

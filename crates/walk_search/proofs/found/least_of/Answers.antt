@@ -1,0 +1,9 @@
+use Rattle.std.proofs.Common.{Bool, List, subst}
+use Rattle.program_walks.specs.Solutions.{AreWalksOfPoint}
+use Rattle.walk_search.proofs.Assigned.{least-found}
+use Rattle.walk_search.proofs.found.least_of.Goals as goal
+
+pub returns : goal.returns
+returns c = λ net policy automata ends objective laid.
+    least-found net policy automata ends objective c.args.program.now.problem c.args.program.now.symbols c.args.program.now.is laid c.args._budget c.args.point c.args.value c.args.tree c.in_ok-walks.walks c.requires.least
+    (subst (λ (p : List Bool). AreWalksOfPoint c.args.program.now.problem c.args.program.now.symbols p c.in_ok-walks.walks) c.as_slice.ensures c.in_ok-walks.ensures)

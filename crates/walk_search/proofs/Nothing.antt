@@ -13,8 +13,8 @@ use Rattle.cutoff_program.specs.declared.flow.Problem.{Problem}
 use Rattle.cutoff_program.specs.Flows.{program_at, variables_of, variables_from, may_be_one}
 use Rattle.cutoff_program.specs.declared.flow.Variable.{Variable}
 use Rattle.policy_flows.specs.Layouts.{StatementParts, AreFlowsBetween}
-use Rattle.walk_search.specs.declared.found.Found.{Found}
-use Rattle.walk_search.specs.declared.found.Found.TheVariants.{Least, Infeasible, Budget}
+use Rattle.walk_search.specs.declared.found.WalksFound.{WalksFound}
+use Rattle.walk_search.specs.declared.found.WalksFound.TheVariants.{Least, Infeasible, Budget}
 use Rattle.walk_search.specs.Found.{IsFoundFor, AreNoWalks}
 
 free : (net : Network) (policy : Policy) → IsFeasible net policy [] []
@@ -39,7 +39,7 @@ no-walks : (net : Network) (policy : Policy) (walks : List (List Symbol)) → Is
 no-walks net policy [] assigned = refl
 no-walks net policy (w ∷ walks) assigned = absurd assigned
 
-pub nothing : (net : Network) (policy : Policy) (parts : StatementParts) (o : Objective) (budget : ℕ) (found : Found) → 0 < budget → IsFoundFor net policy parts [] o budget found → AreNoWalks net policy o found
+pub nothing : (net : Network) (policy : Policy) (parts : StatementParts) (o : Objective) (budget : ℕ) (found : WalksFound) → 0 < budget → IsFoundFor net policy parts [] o budget found → AreNoWalks net policy o found
 nothing net policy parts o budget (Least value walks tree) some h =
     let e = no-walks net policy walks h.is.found.assignment in
     (e, h.is.found.value_is ∙ ap (value_of net policy [] o) e)

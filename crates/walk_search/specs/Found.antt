@@ -21,8 +21,8 @@ use Rattle.program_walks.specs.Bounds.{IsSeparateBound}
 use Rattle.program_walks.specs.Solutions.{IsLaidOut}
 use Rattle.policy_flows.specs.Layouts.{StatementParts, IsLayout, KeepsProductLimits}
 use Rattle.std.specs.List.{AllZip}
-use Rattle.walk_search.specs.declared.found.Found.{Found}
-use Rattle.walk_search.specs.declared.found.Found.TheVariants.{Least, Infeasible, Budget}
+use Rattle.walk_search.specs.declared.found.WalksFound.{WalksFound}
+use Rattle.walk_search.specs.declared.found.WalksFound.TheVariants.{Least, Infeasible, Budget}
 
 -- how many nodes a tree of the program at a cutoff has
 abbrev pub count_nodes : Problem → Option Value → Tree → ℕ
@@ -83,19 +83,19 @@ module _ (net : Network) (policy : Policy) (automata : ℕ → SymbolAutomaton) 
     pub bound_is : IsSeparateBound problem (Some bound)
     pub bounds : NoneIsBelow bound
 
-  abbrev pub IsFoundIn : Problem → ℕ → Found → Type 0
+  abbrev pub IsFoundIn : Problem → ℕ → WalksFound → Type 0
   IsFoundIn problem budget (Least value walks tree) = IsLeastFound problem budget value walks tree
   IsFoundIn problem budget (Infeasible tree) = IsNoneFound problem budget tree
   IsFoundIn problem budget (Budget best bound tree) = IsSpentFound problem budget best bound tree
 
 -- so it is for whatever policy the problem is laid out of
-abbrev pub IsFoundOf : Problem → List (List Symbol) → ℕ → Found → Type 0
+abbrev pub IsFoundOf : Problem → List (List Symbol) → ℕ → WalksFound → Type 0
 IsFoundOf problem symbols budget found =
     (net : Network) (policy : Policy) (automata : ℕ → SymbolAutomaton) (ends : List Ends) (objective : Objective) →
     IsLaidOut net policy automata ends objective problem symbols → IsFoundIn net policy automata ends objective problem budget found
 
 -- What is found for statements with such parts: by the program of their layout over the network.
-pub record IsFoundFor (net : Network) (policy : Policy) (parts : StatementParts) (ends : List Ends) (objective : Objective) (budget : ℕ) (found : Found) : Type 0 where
+pub record IsFoundFor (net : Network) (policy : Policy) (parts : StatementParts) (ends : List Ends) (objective : Objective) (budget : ℕ) (found : WalksFound) : Type 0 where
   pub problem : Problem
   pub symbols : List (List Symbol)
   pub layout : IsLayout net parts ends objective problem symbols
@@ -105,7 +105,7 @@ pub record IsFoundFor (net : Network) (policy : Policy) (parts : StatementParts)
   pub is : IsFoundIn net policy parts.automaton ends objective problem budget found
 
 -- no walks are least, with their value
-abbrev pub AreNoWalks : Network → Policy → Objective → Found → Type 0
+abbrev pub AreNoWalks : Network → Policy → Objective → WalksFound → Type 0
 AreNoWalks net policy objective (Least value walks tree) = (walks ≡ []) × (value ≡ value_of net policy [] objective [])
 AreNoWalks net policy objective (Infeasible tree) = ⊥
 AreNoWalks net policy objective (Budget best bound tree) = ⊥

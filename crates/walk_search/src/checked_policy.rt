@@ -12,7 +12,7 @@ ghost use Rattle.walk_search.specs.Found.{IsFoundFor};
 ghost use Rattle.walk_search.specs.Parts.{checked_parts};
 
 use crate::finding::find_walks_of;
-use crate::found::Found;
+use crate::found::WalksFound;
 use merlin_model::OutOfMemory;
 use merlin_model::limits::MAX_NODES;
 use merlin_model::policy::{Ends, Objective};
@@ -46,7 +46,7 @@ pub fn find_walks(
     ends: &[Ends],
     objective: Objective,
     budget: usize,
-) -> Result<Found, ProgramFault>
+) -> Result<WalksFound, ProgramFault>
     requires some { 0 < budget }
     requires most { budget ≤ MAX_NODES }
     requires automata { HasAutomata (network_symbols net.now) checked.now }

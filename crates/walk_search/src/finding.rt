@@ -8,7 +8,7 @@ ghost use Rattle.policy_flows.specs.Faults.{RefusesStatements};
 ghost use Rattle.merlin_program.specs.Guaranteed.{ArePartsIn};
 ghost use Rattle.walk_search.specs.Found.{IsFoundFor};
 
-use crate::found::Found;
+use crate::found::WalksFound;
 use crate::search::search_of;
 use merlin_model::limits::MAX_NODES;
 use merlin_model::policy::{Ends, Objective};
@@ -30,7 +30,7 @@ pub fn find_walks_of(
     ends: &[Ends],
     objective: Objective,
     budget: usize,
-) -> Result<Found, ProgramFault>
+) -> Result<WalksFound, ProgramFault>
     requires some { 0 < budget }
     requires most { budget ≤ MAX_NODES }
     requires few { length ends.now ≤ 64 }

@@ -17,7 +17,7 @@ use std::alloc::Global;
 
 /// What is found for guaranteed statements.
 #[derive(Drop)]
-pub enum Found {
+pub enum WalksFound {
     /// Walks of least value, one for each guaranteed statement, their value, and a tree that refutes the program at it.
     Least {
         value: Value,
@@ -45,13 +45,13 @@ fn least_of(
     value: Value,
     tree: Tree,
     _budget: usize,
-) -> Result<Found, OutOfMemory>
+) -> Result<WalksFound, OutOfMemory>
     requires least { IsLeastSolution program.now.problem _budget point value tree }
     ensures { IfOk result (IsFoundOf program.now.problem program.now.symbols _budget) }
 {
     let _variables = program.edges();
     let walks = program.assignment_of(alloc, point.as_slice())?;
-    Ok(Found::Least { value, walks, tree })
+    Ok(WalksFound::Least { value, walks, tree })
 }
 
 // The bound that takes each statement by itself, where each has a path.
@@ -91,13 +91,13 @@ fn spent_of(
     best: Option<Items<bool>>,
     tree: Tree,
     _budget: usize,
-) -> Result<Found, OutOfMemory>
+) -> Result<WalksFound, OutOfMemory>
     requires { IsStoppedAt program.now.problem _budget tree best }
     ensures { IfOk result (IsFoundOf program.now.problem program.now.symbols _budget) }
 {
     let bound = bound_of(alloc, program)?;
     let best = best_of(alloc, program, best)?;
-    Ok(Found::Budget { best, bound, tree })
+    Ok(WalksFound::Budget { best, bound, tree })
 }
 
 /// What is found by what a search answered.
@@ -106,7 +106,7 @@ pub fn found_of(
     program: &MerlinProgram,
     outcome: Outcome<Value>,
     budget: usize,
-) -> Result<Found, OutOfMemory>
+) -> Result<WalksFound, OutOfMemory>
     requires { IsOutcomeOf program.now.problem budget outcome }
     ensures { IfOk result (IsFoundOf program.now.problem program.now.symbols budget) }
 {
@@ -116,7 +116,7 @@ pub fn found_of(
             cutoff,
             tree,
         } => least_of(alloc, program, point, cutoff, tree, budget),
-        Outcome::Infeasible { tree } => Ok(Found::Infeasible { tree }),
+        Outcome::Infeasible { tree } => Ok(WalksFound::Infeasible { tree }),
         Outcome::Budget { best, tree } => spent_of(alloc, program, best, tree, budget),
     }
 }

@@ -15,13 +15,13 @@ ghost use Rattle.configuration_model.specs.Groups.{HaveDifferentVertices};
 ghost use Rattle.openflow_rules.specs.Planning.{statement_automata};
 ghost use Rattle.walk_search.specs.Parts.{checked_parts};
 ghost use Rattle.policy_flows.specs.Layouts.{StatementParts};
-ghost use Rattle.walk_search.specs.declared.found.Found.{Found};
+ghost use Rattle.walk_search.specs.declared.found.WalksFound.{WalksFound};
 ghost use Rattle.walk_search.specs.Found.{IsFoundFor, AreNoWalks};
 
 /// Where nothing is guaranteed, no walks are found, with their value and a tree that refutes the program at it.
 pub fn without_guarantees_no_walks_are_least()
     ensures { (net : Network) (policy : Policy) (parts : StatementParts) (objective : Objective)
-        (budget : ℕ) (found : Found) → 0 < budget →
+        (budget : ℕ) (found : WalksFound) → 0 < budget →
         IsFoundFor net policy parts [] objective budget found →
         AreNoWalks net policy objective found }
 {}

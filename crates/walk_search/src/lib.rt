@@ -11,6 +11,6 @@ mod words;
 
 pub use checked_policy::find_walks;
 pub use finding::find_walks_of;
-pub use found::Found;
+pub use found::WalksFound;
 pub use policy_flows::ProgramFault;
 pub use words::words_of;

@@ -4,7 +4,7 @@ ghost use Rattle.std.specs.Prelude.{◌<◌, ◌≤◌, IfOk};
 ghost use Rattle.walk_search.specs.Found.{IsFoundOf};
 
 use crate::choosing::first_free;
-use crate::found::{Found, found_of};
+use crate::found::{WalksFound, found_of};
 use bound_search::Search;
 use integer_program::Fixed;
 use merlin_model::OutOfMemory;
@@ -13,7 +13,11 @@ use merlin_program::MerlinProgram;
 use std::alloc::Global;
 
 /// What a search with at most so many nodes finds of the program.
-pub fn search_of(alloc: Global, program: MerlinProgram, budget: usize) -> Result<Found, OutOfMemory>
+pub fn search_of(
+    alloc: Global,
+    program: MerlinProgram,
+    budget: usize,
+) -> Result<WalksFound, OutOfMemory>
     requires some { 0 < budget }
     requires most { budget ≤ MAX_NODES }
     ensures { IfOk result (IsFoundOf program.problem program.symbols budget) }

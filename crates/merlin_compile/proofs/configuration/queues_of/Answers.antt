@@ -1,5 +1,0 @@
-use Rattle.std.proofs.Common.{◌∙◌}
-use Rattle.merlin_compile.proofs.configuration.queues_of.Goals as goal
-
-pub returns : goal.returns
-returns c = c.from_vec.ensures ∙ c.in_ok-queues.ensures

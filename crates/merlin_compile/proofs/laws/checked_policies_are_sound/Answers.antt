@@ -1,5 +1,0 @@
-use Rattle.merlin_compile.proofs.Sound.{checked-is}
-use Rattle.merlin_compile.proofs.laws.checked_policies_are_sound.Goals as goal
-
-pub returns : goal.returns
-returns c net raw checked is sound numbers = checked-is net raw checked is sound numbers (c.symbols_are_all.ensures.each net) (c.no_function_stands_under_not.ensures net)

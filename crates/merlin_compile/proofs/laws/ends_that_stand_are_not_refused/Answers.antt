@@ -1,5 +1,0 @@
-use Rattle.merlin_compile.proofs.Stood.{at-no-fault}
-use Rattle.merlin_compile.proofs.laws.ends_that_stand_are_not_refused.Goals as goal
-
-pub returns : goal.returns
-returns c net policy ends fault all few = at-no-fault net policy ends all few fault

@@ -1,5 +1,0 @@
-use Rattle.merlin_compile.proofs.Planned.{not-passed}
-use Rattle.merlin_compile.proofs.laws.limits_are_kept_or_passed.Goals as goal
-
-pub returns : goal.returns
-returns c net checked ends fault all within = not-passed net checked ends all within fault

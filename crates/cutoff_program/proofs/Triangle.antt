@@ -7,10 +7,9 @@ use Rattle.merlin_model.specs.Networks.{IsHost, AreLinked, directed_links}
 use Rattle.merlin_model.specs.Words.{at, IsSymbol, MayFollow}
 use Rattle.merlin_model.proofs.Fitting.{and-both}
 use Rattle.merlin_model.proofs.Members.{In, in_from, in_to}
-use Rattle.rules_model.specs.Plain.{any_automaton}
 use Rattle.rules_model.specs.Products.{Vertex, loc_of, IsEdge, IsLast, LeadsTo, IsOnWayBetween}
 use Rattle.cutoff_program.specs.Products.{IsJoined, IsTrimmed}
-use Rattle.cutoff_program.specs.Rows.{triangle_net, triangle_product, vertex}
+use Rattle.cutoff_program.specs.Rows.{triangle_net, any_automaton, triangle_product, vertex}
 use Rattle.cutoff_program.proofs.Lists.{none_some, some_some}
 use Rattle.cutoff_program.proofs.Rooms.{false_true}
 

@@ -1,5 +1,5 @@
 -- Two flows of 60 from one host to another over a triangle of switches.
-use Rattle.std.specs.Prelude.{ℕ, ℤ, Bool, true, false, List, [], ◌∷◌, map, Option, Some}
+use Rattle.std.specs.Prelude.{ℕ, ℤ, ◌==◌, Bool, true, false, List, [], ◌∷◌, map, Option, None, Some}
 use Rattle.merlin_model.specs.declared.policy.Value.{Value}
 use Rattle.merlin_model.specs.declared.policy.Value.TheVariants.{Whole}
 use Rattle.merlin_model.specs.declared.network.DirectedLink.{DirectedLink}
@@ -9,7 +9,7 @@ use Rattle.merlin_model.specs.declared.network.Location.{Location}
 use Rattle.merlin_model.specs.declared.network.Link.{Link}
 use Rattle.merlin_model.specs.Networks.{Network}
 use Rattle.merlin_model.specs.Words.{at}
-use Rattle.rules_model.specs.Products.{Vertex}
+use Rattle.rules_model.specs.Products.{SymbolAutomaton, Vertex}
 use Rattle.cutoff_program.specs.Products.{Product}
 use Rattle.merlin_model.specs.declared.policy.Objective.{Objective}
 use Rattle.merlin_model.specs.declared.policy.Objective.TheVariants.{Shortest}
@@ -71,6 +71,15 @@ triangle_net = record {
 
 abbrev pub vertex : ℕ → Vertex
 vertex loc = record { symbol = at loc; state = 0 }
+
+-- The automaton of `.*`: it is in state 0 while no symbol had a function, then in state 1.
+
+abbrev pub any_step : ℕ → Option ℕ → ℕ
+any_step q None = q
+any_step q (Some f) = 1
+
+abbrev pub any_automaton : SymbolAutomaton
+any_automaton = record { step = λ q x. any_step q x.fun; accepts = λ q. q == 0 }
 
 -- from host 0 to host 1 on any way
 abbrev pub triangle_product : Product

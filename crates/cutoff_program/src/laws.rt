@@ -17,10 +17,9 @@ ghost use Rattle.rules_model.specs.Products.{SymbolAutomaton};
 ghost use Rattle.cutoff_program.specs.Flows.{Flow, Problem, program_at, cutoff_of, takes, is_below, entries_from, chosen_from, Variable, variables_of, last_of, cost_of_variable};
 ghost use Rattle.cutoff_program.specs.Limits.{IsProblem, HasCutoffsOf};
 ghost use Rattle.cutoff_program.specs.Trails.{IsTrailOf, IsShortened, IsBalanced, HasChosenTrail, IsPath, ArePaths, AreTrailsFrom, edges_of, point_with, FitsCapacities, IsPointOf, HasPaths, AreOverChosenEdges, AreWithinPoint};
-ghost use Rattle.rules_model.specs.Plain.{any_automaton};
 ghost use Rattle.cutoff_program.specs.Products.{IsProduct, flow_of};
 ghost use Rattle.cutoff_program.specs.Walks.{IsFlowOf, IsProblemOf, KeepsPolicyLimits, HasTrailFor, HasWalkFor, HasPoint, HasWalks};
-ghost use Rattle.cutoff_program.specs.Rows.{below_421, rights, right_of_row, triangle, cut_off, two_walks, all_shut, triangle_net, triangle_product, over_triangle};
+ghost use Rattle.cutoff_program.specs.Rows.{below_421, rights, right_of_row, triangle, cut_off, two_walks, all_shut, triangle_net, any_automaton, triangle_product, over_triangle};
 
 /// Two flows of 60 over a triangle of switches, and one without a walk.
 pub fn triangle_rows()

@@ -13,7 +13,7 @@ use Rattle.merlin_model.proofs.DirectedLinks.{uplink_of-is}
 use Rattle.rules_model.specs.declared.attached_host.AttachedHost.{AttachedHost}
 use Rattle.rules_model.specs.Products.{Vertex, loc_of, Group, Follows, AllowsWalk, AllowsWalkAt, start_in, queue_in, queue_at}
 use Rattle.rules_model.specs.Tables.{IsHop, IsFirstHop}
-use Rattle.rules_model.specs.Plain.{attached_host_at, attached_host_by}
+use Rattle.rules_model.specs.AttachedHosts.{attached_host_at, attached_host_by}
 use Rattle.rules_model.proofs.Setting.{starts_at}
 use Rattle.rules_model.proofs.Trees.{group_routing, host_symbol}
 use Rattle.configuration_model.specs.Cells.{table_cell}

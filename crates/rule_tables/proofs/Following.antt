@@ -8,7 +8,7 @@ use Rattle.rules_model.specs.Products.{SymbolAutomaton, Vertex, loc_of, start_of
 use Rattle.rules_model.specs.Tables.{tag_key_of, onward, onward_location}
 use Rattle.rules_model.proofs.Trees.{tree-way, after-in, IsRouting, group_routing}
 use Rattle.rules_model.proofs.Steps.{far_of_host}
-use Rattle.rules_model.proofs.Routes.{switch-no_host}
+use Rattle.rules_model.proofs.Uplinks.{switch-no_host}
 use Rattle.rule_tables.specs.declared.branches.TagKey.{TagKey as ListedKey}
 use Rattle.rule_tables.specs.Branches.{key_of}
 use Rattle.rule_tables.specs.Hops.{IsTagged, CanHop}

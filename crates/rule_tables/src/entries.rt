@@ -7,7 +7,7 @@ ghost use Rattle.merlin_model.specs.Networks.{IsHost, from_a, from_b};
 ghost use Rattle.merlin_model.specs.Machine.{uplink_of};
 ghost use Rattle.rules_model.specs.Products.{Group, queue_in};
 ghost use Rattle.rules_model.specs.Tables.{IsFirstHop};
-ghost use Rattle.rules_model.specs.Plain.{attached_host_at};
+ghost use Rattle.rules_model.specs.AttachedHosts.{attached_host_at};
 ghost use Rattle.rule_tables.specs.Branches.{AreBranches};
 ghost use Rattle.rule_tables.specs.Hops.{table_hop};
 ghost use Rattle.rule_tables.specs.Rows.{IsReady, tags_alone};

@@ -7,7 +7,7 @@ use Rattle.merlin_model.proofs.Members.{In, in_from, in_to}
 use Rattle.merlin_model.proofs.Traces.{Some-inj}
 use Rattle.rules_model.specs.Products.{function_place, Vertex, loc_of, start_of, LeadsToEnd, WrittenWalk, IsWrittenWalk, FollowsIn, AllowsWalkIn, Group, AreWrittenWalks, FollowsAt, AllowsWalkAt, start_at, start_in, queue_in}
 use Rattle.rules_model.specs.Tables.{TagKey, HasTag, Hop, IsHop, TableRow, HostPair, IsHostPair, IngressEntry, Plan, Cell, IsTableRow, IsIngressEntry, IsFirstHop, IsPlan, IsBelow, IsBelowKey, IsBelowRow, owned_by, IsInOrder, table_rules, table_processes}
-use Rattle.rules_model.proofs.Routes.{one_from_host}
+use Rattle.rules_model.proofs.Uplinks.{one_from_host}
 use Rattle.rules_model.proofs.Setting.{Setting, routing}
 use Rattle.rules_model.proofs.Steps.{tag-same, row-one, hop-same}
 use Rattle.rules_model.proofs.Trees.{tree-way, after-in}

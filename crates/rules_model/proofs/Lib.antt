@@ -8,12 +8,6 @@ pub mod Ingress
 pub mod Trees
 pub mod Ways
 pub mod Promise
-pub mod Routes
+pub mod Uplinks
 pub mod Pieces
-pub mod AnyPath
-pub mod PlainPlan
-pub mod PlainPromise
 pub mod Determined
-pub mod PlainOrder
-pub mod NoGuarantee
-pub mod Spanning

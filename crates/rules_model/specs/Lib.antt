@@ -1,4 +1,4 @@
 pub mod Products
 pub mod Tables
 pub mod Promise
-pub mod Plain
+pub mod AttachedHosts

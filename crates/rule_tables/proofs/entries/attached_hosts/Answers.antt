@@ -1,5 +1,5 @@
 use Rattle.std.proofs.Common.{◌++◌, ◌∷◌, [], ◌∙◌, ap}
-use Rattle.rules_model.specs.Plain.{attached_host_at}
+use Rattle.rules_model.specs.AttachedHosts.{attached_host_at}
 use Rattle.rule_tables.proofs.Growing.{mapped-next}
 use Rattle.rule_tables.proofs.entries.attached_hosts.Goals as goal
 

@@ -1,6 +1,6 @@
 use Rattle.std.proofs.Common.{◌≡◌, map}
 use Rattle.std.specs.List.{range_with_len}
-use Rattle.rules_model.specs.Plain.{attached_host_at}
+use Rattle.rules_model.specs.AttachedHosts.{attached_host_at}
 use Rattle.rule_tables.proofs.entries.attached_hosts.Given as goal
 
 abbrev pub invariant-loop-loc : goal.invariant-loop-loc

@@ -1,12 +1,15 @@
 -- Which limits a policy passes does not depend on the tables of its automata: in the states that are reached they do the same.
-use Rattle.std.proofs.Common.{◌≡◌, ◌<◌, ◌+◌, ◌↔◌, inl, inr, ℕ, zero, suc, List, [], ◌∷◌, ◌++◌, length, map, slice_get, Contains, None, Some, Ok, refl, sym, ◌∙◌, ap, ap₂, subst}
+use Rattle.std.proofs.Common.{◌≡◌, ◌<◌, ◌+◌, ◌↔◌, inl, inr, ℕ, zero, suc, List, [], ◌∷◌, ◌++◌, length, map, slice_get, Contains, Option, None, Some, IsSome, Ok, refl, sym, ◌∙◌, ap, ap₂, subst, arith}
 use Rattle.std.specs.List.{AllByRecursion, AllZip, enumerate_from, flat_map}
 use Rattle.merlin_model.specs.declared.policy.Path.{Path}
 use Rattle.merlin_model.specs.declared.policy.Symbol.{Symbol}
-use Rattle.merlin_model.specs.Networks.{Network, IsHost}
+use Rattle.merlin_model.specs.declared.policy.Ends.{Ends}
+use Rattle.merlin_model.specs.declared.network.HostAddress.{HostAddress}
+use Rattle.merlin_model.specs.Networks.{Network, IsHost, address_of}
 use Rattle.merlin_model.specs.Words.{at, IsSymbol}
 use Rattle.merlin_model.specs.Policies.{Policy, paths_of}
-use Rattle.merlin_model.specs.Rates.{IsGuaranteed}
+use Rattle.merlin_model.specs.Rates.{IsGuaranteed, min_of}
+use Rattle.merlin_model.specs.Assignments.{AreTheEnds, AreAllEnds}
 use Rattle.merlin_model.proofs.Members.{In, in_from, in_to}
 use Rattle.merlin_model.proofs.Ascending.{ascending-same}
 use Rattle.topology.specs.Symbols.{network_symbols}
@@ -18,11 +21,12 @@ use Rattle.path_automaton.proofs.Noting.{with_all_new-keeps}
 use Rattle.path_automaton.proofs.Building.{get-below, below-get, one-place}
 use Rattle.path_automaton.proofs.Numbering.{states-differ}
 use Rattle.path_automaton.proofs.Listed.{number-at}
-use Rattle.rules_model.specs.Products.{SymbolAutomaton, Vertex, start_of, IsEdge, IsLast, LeadsToEnd, LeadsTo, IsOnWayBetween, IsVertexIn, IsVertex, Group}
+use Rattle.rules_model.specs.Products.{SymbolAutomaton, Vertex, start_of, IsEdge, IsLast, LeadsToEnd, LeadsTo, IsOnWayBetween, IsVertexIn, IsVertex, WrittenWalk, Group}
 use Rattle.rules_model.specs.Tables.{TagKey, IsTagKey}
 use Rattle.rules_model.proofs.Trees.{host_symbol}
 use Rattle.product_graph.specs.Products.{automaton_of}
-use Rattle.product_graph.proofs.Lists.{some-same, all-map}
+use Rattle.product_graph.proofs.Lists.{some-same, all-map, all-get}
+use Rattle.path_automaton.proofs.Classing.{get-map}
 use Rattle.predicate_split.specs.declared.fault.TheConstants.{MAX_CELLS}
 use Rattle.policy_expansion.specs.declared.policy.Policy.{Policy as NamedPolicy}
 use Rattle.policy_check.specs.Numbered.{numbered_policy}
@@ -31,16 +35,21 @@ use Rattle.configuration_model.specs.Groups.{AreGrouped, IsGroupOf}
 use Rattle.configuration_model.specs.Pairs.{count_of_cells}
 use Rattle.openflow_rules.specs.declared.fault.RuleFault.{RuleFault}
 use Rattle.openflow_rules.specs.declared.fault.RuleFault.TheVariants.{TooManyTags, TooManyCells, TooManyEntries, OutOfMemory}
-use Rattle.openflow_rules.specs.Planning.{statement_automata, AreInnerVertices, destinations_of, products_of, HaveEntries, ArePlanned, IsWithinLimits, PassesLimit}
+use Rattle.openflow_rules.specs.Planning.{statement_automata, bare_walks, AreInnerVertices, destinations_of, products_of, HaveEntries, ArePlanned, IsWithinLimits, PassesLimit}
 use Rattle.policy_configuration.proofs.Sound.{stands}
 
 -- Two automata that do the same over the symbols of a network, in the states below a bound, which they do not leave.
-record DoAlike (net : Network) (a b : SymbolAutomaton) (n : ℕ) : Type 0 where
-  first : 0 < n
-  step : (q : ℕ) (x : Symbol) → q < n → IsSymbol net x → (a.step q x ≡ b.step q x) × (a.step q x < n)
-  accepts : (q : ℕ) → q < n → a.accepts q ≡ b.accepts q
+pub record DoAlike (net : Network) (a b : SymbolAutomaton) (n : ℕ) : Type 0 where
+  pub first : 0 < n
+  pub step : (q : ℕ) (x : Symbol) → q < n → IsSymbol net x → (a.step q x ≡ b.step q x) × (a.step q x < n)
+  pub accepts : (q : ℕ) → q < n → a.accepts q ≡ b.accepts q
 
-alike-back : (net : Network) (a b : SymbolAutomaton) (n : ℕ) → DoAlike net a b n → DoAlike net b a n
+-- a written walk is between two hosts
+abbrev IsBetweenHosts : Network → Option WrittenWalk → Type 0
+IsBetweenHosts net None = Unit {0}
+IsBetweenHosts net (Some w) = IsHost net w.source × IsHost net w.dest
+
+pub alike-back : (net : Network) (a b : SymbolAutomaton) (n : ℕ) → DoAlike net a b n → DoAlike net b a n
 alike-back net a b n h = record {
   first = h.first;
   step = λ q x lt is. let s = h.step q x lt is in (sym s.0, subst (λ k. k < n) s.0 s.1);
@@ -48,25 +57,25 @@ alike-back net a b n h = record {
 }
 
 module _ (net : Network) (a b : SymbolAutomaton) (n : ℕ) (alike : DoAlike net a b n) where
-  edge : (v u : Vertex) → v.state < n → IsEdge net a v u → IsEdge net b v u × (u.state < n)
+  pub edge : (v u : Vertex) → v.state < n → IsEdge net a v u → IsEdge net b v u × (u.state < n)
   edge v u lt e =
       let s = alike.step v.state u.symbol lt e.symbol in
       (record { follows = e.follows; symbol = e.symbol; inside = e.inside; state = e.state ∙ s.0; turns = e.turns }, subst (λ k. k < n) (sym e.state) s.1)
 
-  last : (d : ℕ) (v : Vertex) → IsHost net d → v.state < n → IsLast net a d v → IsLast net b d v
+  pub last : (d : ℕ) (v : Vertex) → IsHost net d → v.state < n → IsLast net a d v → IsLast net b d v
   last d v host lt l =
       let s = alike.step v.state (at d) lt (host_symbol net d host) in
       record { follows = l.follows; accepts = ap b.accepts (sym s.0) ∙ sym (alike.accepts (a.step v.state (at d)) s.1) ∙ l.accepts }
 
-  leads : (d : ℕ) (v : Vertex) (us : List Vertex) → IsHost net d → v.state < n → LeadsToEnd net a d v us → LeadsToEnd net b d v us
+  pub leads : (d : ℕ) (v : Vertex) (us : List Vertex) → IsHost net d → v.state < n → LeadsToEnd net a d v us → LeadsToEnd net b d v us
   leads d v [] host lt h = last d v host lt h
   leads d v (u ∷ us) host lt h = let e = edge v u lt h.0 in (e.0, leads d u us host e.1 h.1)
 
-  comes : (v : Vertex) (xs : List Vertex) (u : Vertex) → v.state < n → LeadsTo net a v xs u → LeadsTo net b v xs u × (u.state < n)
+  pub comes : (v : Vertex) (xs : List Vertex) (u : Vertex) → v.state < n → LeadsTo net a v xs u → LeadsTo net b v xs u × (u.state < n)
   comes v [] u lt e = (e, subst (λ w. w.state < n) e lt)
   comes v (x ∷ xs) u lt h = let e = edge v x lt h.0 in let rest = comes x xs u e.1 h.1 in ((e.0, rest.0), rest.1)
 
-  on-way : (s d : ℕ) (v : Vertex) → IsHost net s → IsHost net d → IsOnWayBetween net a s d v → IsOnWayBetween net b s d v
+  pub on-way : (s d : ℕ) (v : Vertex) → IsHost net s → IsHost net d → IsOnWayBetween net a s d v → IsOnWayBetween net b s d v
   on-way s d v source dest h =
       let first = alike.step 0 (at s) alike.first (host_symbol net s source) in
       let start : start_of a s ≡ start_of b s = ap (λ q. record { symbol = at s; state = q }) first.0 in
@@ -78,13 +87,14 @@ module _ (net : Network) (a b : SymbolAutomaton) (n : ℕ) (alike : DoAlike net 
         leads = leads d v h.after dest way.1 h.leads;
       }
 
-  vertex : (d : ℕ) (v : Vertex) → IsVertexIn net a None d v → IsVertexIn net b None d v
-  vertex d v (s, source, dest, other, way) = (s, source, dest, other, on-way s d v source dest way)
+  vertex : (w : Option WrittenWalk) → IsBetweenHosts net w → (d : ℕ) (v : Vertex) → IsVertexIn net a w d v → IsVertexIn net b w d v
+  vertex None between d v (s, source, dest, other, way) = (s, source, dest, other, on-way s d v source dest way)
+  vertex (Some w) between d v (e, way) = (e, on-way w.source d v between.0 (subst (IsHost net) (sym e) between.1) way)
 
--- Groups of best effort whose automata do alike.
+-- Groups with the same written walk, if they have one, whose automata do alike.
 record AreAlike (net : Network) (g h : Group) : Type 0 where
-  free : g.written ≡ None
-  too : h.written ≡ None
+  same : g.written ≡ h.written
+  between : IsBetweenHosts net g.written
   bound : ℕ
   alike : DoAlike net g.automaton h.automaton bound
 
@@ -94,15 +104,20 @@ module _ (net : Network) where
   groups-back [] (h ∷ hs) z = absurd z
   groups-back (g ∷ gs) [] z = absurd z
   groups-back (g ∷ gs) (h ∷ hs) z =
-      (record { free = z.0.too; too = z.0.free; bound = z.0.bound; alike = alike-back net g.automaton h.automaton z.0.bound z.0.alike }, groups-back gs hs z.1)
+      (record {
+        same = sym z.0.same;
+        between = subst (IsBetweenHosts net) z.0.same z.0.between;
+        bound = z.0.bound;
+        alike = alike-back net g.automaton h.automaton z.0.bound z.0.alike;
+      }, groups-back gs hs z.1)
 
   vertex-in : (gs hs : List Group) → AllZip (AreAlike net) gs hs → (k d : ℕ) (v : Vertex) → IsVertex net gs k d v → IsVertex net hs k d v
   vertex-in [] [] z k d v h = absurd h
   vertex-in [] (h ∷ hs) z k d v is = absurd z
   vertex-in (g ∷ gs) [] z k d v is = absurd z
   vertex-in (g ∷ gs) (h ∷ hs) z zero d v is =
-      subst (λ w. IsVertexIn net h.automaton w d v) (sym z.0.too)
-      (vertex net g.automaton h.automaton z.0.bound z.0.alike d v (subst (λ w. IsVertexIn net g.automaton w d v) z.0.free is))
+      subst (λ w. IsVertexIn net h.automaton w d v) z.0.same
+      (vertex net g.automaton h.automaton z.0.bound z.0.alike g.written z.0.between d v is)
   vertex-in (g ∷ gs) (h ∷ hs) z (suc k) d v is = vertex-in gs hs z.1 k d v is
 
   tag-in : (gs hs : List Group) → AllZip (AreAlike net) gs hs → (key : TagKey) → IsTagKey net gs key → IsTagKey net hs key
@@ -126,7 +141,7 @@ module _ (net : Network) where
   products-from n [] (h ∷ hs) z = absurd z
   products-from n (g ∷ gs) [] z = absurd z
   products-from n (g ∷ gs) (h ∷ hs) z =
-      ap₂ (λ xs ys. xs ++ ys) (ap (λ w. map (λ d. (n, d)) (destinations_of net w)) (z.0.free ∙ sym z.0.too)) (products-from (n + 1) gs hs z.1)
+      ap₂ (λ xs ys. xs ++ ys) (ap (λ w. map (λ d. (n, d)) (destinations_of net w)) z.0.same) (products-from (n + 1) gs hs z.1)
 
 zip-map : {X Y : Type 0} (R S : X → Y → Type 0) → ((x : X) (y : Y) → R x y → S x y) → (xs : List X) (ys : List Y) → AllZip R xs ys → AllZip S xs ys
 zip-map R S f [] [] z = tt
@@ -143,9 +158,9 @@ entries-in net gs hs z count h = record {
 }
 
 -- the policy was checked, and each path has the number of an automaton
-record WasChecked (net : Network) (raw : NamedPolicy) (checked : CheckedPolicy) : Type 0 where
-  is_check : IsCheckOf net (network_symbols net) raw checked
-  numbers : length checked.automaton_numbers ≡ length (paths_of checked.policy)
+pub record WasNumbered (net : Network) (raw : NamedPolicy) (checked : CheckedPolicy) : Type 0 where
+  pub is_check : IsCheckOf net (network_symbols net) raw checked
+  pub numbers : length checked.automaton_numbers ≡ length (paths_of checked.policy)
 
 -- What is known of symbols and of the states of a path.
 pub record Numbering : Type 0 where
@@ -154,7 +169,7 @@ pub record Numbering : Type 0 where
 
 -- two tables of one path do alike
 module _ (known : Numbering) (net : Network) (path : Path) (t u : AutomatonTables) (forms : List Path) (a : AreTablesOfPath path (network_symbols net) t forms) (b : AreTablesOfPath path (network_symbols net) u forms) where
-  alike-tables : DoAlike net (automaton_of (network_symbols net) t) (automaton_of (network_symbols net) u) (length forms)
+  pub alike-tables : DoAlike net (automaton_of (network_symbols net) t) (automaton_of (network_symbols net) u) (length forms)
   alike-tables = record {
     first = get-below forms 0 (normal_of path) (subst (λ l. slice_get l 0 ≡ Some (normal_of path)) (sym a.states.in_order)
         (with_all_new-keeps (normal_of path ∷ []) (flat_map (followers (network_symbols net)) forms) 0 (normal_of path) refl));
@@ -168,20 +183,29 @@ module _ (known : Numbering) (net : Network) (path : Path) (t u : AutomatonTable
     accepts = λ q lt. let form = below-get forms q lt in a.accepting q form.0 form.1 ∙ sym (b.accepting q form.0 form.1);
   }
 
-module _ (known : Numbering) (net : Network) (raw : NamedPolicy) (free : (i : ℕ) → ¬ IsGuaranteed (numbered_policy net raw) i) where
-  abbrev policy : Policy
+-- the ends of a statement, among those of all guaranteed ones
+ends-of : (ends : List Ends) (j : ℕ) → In j (map (λ e. e.statement) ends) → (k : ℕ) × (e : Ends) × (slice_get ends k ≡ Some e) × (e.statement ≡ j)
+ends-of [] j i = absurd i
+ends-of (e ∷ ends) j (inl h) = (0, e, refl, sym h)
+ends-of (e ∷ ends) j (inr i) = let rest = ends-of ends j i in (suc rest.0, rest.1, rest.2, rest.3)
+
+host-of : (net : Network) (loc : ℕ) (a : HostAddress) → address_of net loc ≡ Some a → IsHost net loc
+host-of net loc a e = subst IsSome (sym e) refl
+
+module _ (known : Numbering) (net : Network) (raw : NamedPolicy) (ends : List Ends) (all : AreAllEnds net (numbered_policy net raw) ends) where
+  abbrev pub policy : Policy
   policy = numbered_policy net raw
 
-  abbrev symbols : List Symbol
+  abbrev pub symbols : List Symbol
   symbols = network_symbols net
 
   -- the automaton of a statement, and its path
-  record HasTable (j : ℕ) (t : AutomatonTables) : Type 0 where
-    path : Path
-    has : slice_get (paths_of policy) j ≡ Some path
-    built : IsBuilt path symbols (Ok t)
+  pub record HasTable (j : ℕ) (t : AutomatonTables) : Type 0 where
+    pub path : Path
+    pub has : slice_get (paths_of policy) j ≡ Some path
+    pub built : IsBuilt path symbols (Ok t)
 
-  table-of : (checked : CheckedPolicy) → WasChecked net raw checked → (j : ℕ) → j < length (paths_of policy) → (t : AutomatonTables) → slice_get (statement_automata checked) j ≡ Some t → HasTable j t
+  pub table-of : (checked : CheckedPolicy) → WasNumbered net raw checked → (j : ℕ) → j < length (paths_of policy) → (t : AutomatonTables) → slice_get (statement_automata checked) j ≡ Some t → HasTable j t
   table-of checked was j lt t at =
       let path = below-get (paths_of policy) j lt in
       let there : slice_get (paths_of checked.policy) j ≡ Some path.0 = subst (λ p. slice_get (paths_of p) j ≡ Some path.0) (sym was.is_check.policy) path.1 in
@@ -189,9 +213,27 @@ module _ (known : Numbering) (net : Network) (raw : NamedPolicy) (free : (i : �
       let same : own.0 ≡ t = some-same (sym (stands symbols checked was.is_check.automata was.numbers j own.0 own.1) ∙ at) in
       record { path = path.0; has = path.1; built = subst (λ t. IsBuilt path.0 symbols (Ok t)) same own.2.built }
 
-  module _ (checked other : CheckedPolicy) (was : WasChecked net raw checked) (has : WasChecked net raw other) where
+  module _ (checked other : CheckedPolicy) (was : WasNumbered net raw checked) (has : WasNumbered net raw other) where
     abbrev IsBare : CheckedPolicy → ℕ → Group → Type 0
-    IsBare c j g = IsGroupOf policy symbols (statement_automata c) [] [] j g
+    IsBare c j g = IsGroupOf policy symbols (statement_automata c) ends (bare_walks ends) j g
+
+    abbrev bare-between : Ends → Option WrittenWalk
+    bare-between e = Some (record { source = e.src; dest = e.dst; after = [] })
+
+    -- of a group before walks are chosen only the ends are known
+    written-alike : (j : ℕ) (g h : Group) → IsBare checked j g → IsBare other j h → (n : ℕ) → n ≡ min_of policy j → (g.written ≡ h.written) × IsBetweenHosts net g.written
+    written-alike j g h is other_is zero e =
+        let free : ¬ IsGuaranteed policy j = λ some. let none : min_of policy j ≡ 0 = sym e in omega (arith, some, none) in
+        let no = (is.best_effort free).0 in
+        (no ∙ sym (other_is.best_effort free).0, subst (IsBetweenHosts net) (sym no) tt)
+    written-alike j g h is other_is (suc n) e =
+        let some : IsGuaranteed policy j = omega (arith, e) in
+        let own_ends = ends-of ends j (in_from (map (λ e. e.statement) ends) j (all.all j some)) in
+        let walk = get-map (λ e. at e.src ∷ at e.dst ∷ []) ends own_ends.0 own_ends.1 own_ends.2 in
+        let one : g.written ≡ bare-between own_ends.1 = (is.guaranteed own_ends.0 own_ends.1 (at own_ends.1.src ∷ at own_ends.1.dst ∷ []) own_ends.2 own_ends.3 walk).0 in
+        let two : h.written ≡ bare-between own_ends.1 = (other_is.guaranteed own_ends.0 own_ends.1 (at own_ends.1.src ∷ at own_ends.1.dst ∷ []) own_ends.2 own_ends.3 walk).0 in
+        let own = all-get (AreTheEnds net policy) ends own_ends.0 own_ends.1 all.each own_ends.2 in
+        (one ∙ sym two, subst (IsBetweenHosts net) (sym one) (host-of net own_ends.1.src _ own.traffic.proper.source, host-of net own_ends.1.dst _ own.traffic.proper.destination))
 
     alike-groups : (j : ℕ) → j < length (paths_of policy) → (g h : Group) → IsBare checked j g → IsBare other j h → AreAlike net g h
     alike-groups j lt g h is other_is =
@@ -200,9 +242,10 @@ module _ (known : Numbering) (net : Network) (raw : NamedPolicy) (free : (i : �
         let path : two.path ≡ one.path = some-same (sym two.has ∙ one.has) in
         let built = subst (λ p. IsBuilt p symbols (Ok other_is.tables)) path two.built in
         let forms : built.0 ≡ one.built.0 = known.one one.path symbols built.0 one.built.0 built.1.states one.built.1.states in
+        let walks = written-alike j g h is other_is (min_of policy j) refl in
         record {
-          free = (is.best_effort (free j)).0;
-          too = (other_is.best_effort (free j)).0;
+          same = walks.0;
+          between = walks.1;
           bound = length one.built.0;
           alike = subst (λ a. DoAlike net a h.automaton (length one.built.0)) (sym is.automaton)
               (subst (λ b. DoAlike net (automaton_of symbols is.tables) b (length one.built.0)) (sym other_is.automaton)
@@ -224,15 +267,15 @@ module _ (known : Numbering) (net : Network) (raw : NamedPolicy) (free : (i : �
       grouped : AreGrouped policy leaders group_of
       are : AllZip (IsBare c) leaders gs
 
-    bare : (c : CheckedPolicy) → WasChecked net raw c → (gs : List Group) → ArePlanned net c [] gs → Bare c gs
+    bare : (c : CheckedPolicy) → WasNumbered net raw c → (gs : List Group) → ArePlanned net c ends gs → Bare c gs
     bare c is gs p = record {
       leaders = p.leaders;
       group_of = p.group_of;
       grouped = subst (λ q. AreGrouped q p.leaders p.group_of) is.is_check.policy p.grouped;
-      are = subst (λ q. AllZip (IsGroupOf q symbols (statement_automata c) [] []) p.leaders gs) is.is_check.policy p.are;
+      are = subst (λ q. AllZip (IsGroupOf q symbols (statement_automata c) ends (bare_walks ends)) p.leaders gs) is.is_check.policy p.are;
     }
 
-    planned-alike : (gs hs : List Group) → ArePlanned net checked [] gs → ArePlanned net other [] hs → AllZip (AreAlike net) gs hs
+    planned-alike : (gs hs : List Group) → ArePlanned net checked ends gs → ArePlanned net other ends hs → AllZip (AreAlike net) gs hs
     planned-alike gs hs p q =
         let a = bare checked was gs p in
         let b = bare other has hs q in
@@ -245,7 +288,7 @@ module _ (known : Numbering) (net : Network) (raw : NamedPolicy) (free : (i : �
         all-from (j ∷ js) f = (f j (inl refl), all-from js (λ k i. f k (inr i)))
 
     -- what the one passes the other passes, where it is within the limits before
-    passes-too : IsWithinLimits net checked [] → (fault : RuleFault) → PassesLimit net other [] fault → PassesLimit net checked [] fault
+    passes-too : IsWithinLimits net checked ends → (fault : RuleFault) → PassesLimit net other ends fault → PassesLimit net checked ends fault
     passes-too within (TooManyTags count) (m, e) =
         let f = within.tags in
         let z = groups-back net f.groups m.groups (planned-alike f.groups m.groups f.planned m.planned) in (
@@ -267,9 +310,9 @@ module _ (known : Numbering) (net : Network) (raw : NamedPolicy) (free : (i : �
         (within.tags, within.cells, (n, record { groups = f.groups; planned = f.planned; are = entries-in net h.groups f.groups z n h.are }, many), e)
     passes-too within OutOfMemory h = tt
 
-pub passes-as-well : Numbering → (net : Network) (raw : NamedPolicy) (checked other : CheckedPolicy) (fault : RuleFault) → ((i : ℕ) → ¬ IsGuaranteed (numbered_policy net raw) i) →
+pub passes-as-well : Numbering → (net : Network) (raw : NamedPolicy) (checked other : CheckedPolicy) (ends : List Ends) (fault : RuleFault) → AreAllEnds net (numbered_policy net raw) ends →
     IsCheckOf net (network_symbols net) raw checked → length checked.automaton_numbers ≡ length (paths_of checked.policy) →
     IsCheckOf net (network_symbols net) raw other → length other.automaton_numbers ≡ length (paths_of other.policy) →
-    IsWithinLimits net checked [] → PassesLimit net other [] fault → PassesLimit net checked [] fault
-passes-as-well known net raw checked other fault free is numbers other_is as_many within h =
-    passes-too known net raw free checked other (record { is_check = is; numbers = numbers }) (record { is_check = other_is; numbers = as_many }) within fault h
+    IsWithinLimits net checked ends → PassesLimit net other ends fault → PassesLimit net checked ends fault
+passes-as-well known net raw checked other ends fault all is numbers other_is as_many within h =
+    passes-too known net raw ends all checked other (record { is_check = is; numbers = numbers }) (record { is_check = other_is; numbers = as_many }) within fault h

@@ -8,7 +8,7 @@ use Rattle.policy_check.specs.declared.fault.EndsFault.{EndsFault}
 use Rattle.policy_check.specs.declared.fault.EndsFault.TheVariants as ends_faults
 use Rattle.policy_check.specs.Ends.{BreaksEnds}
 use Rattle.policy_check.proofs.Destinations.{host-within}
-use Rattle.merlin.specs.Refusals.{AreLocations, NamesLocations}
+use Rattle.refusal_text.specs.Refusals.{AreLocations, NamesLocations}
 
 locations : (net : Network) (policy : Policy) (i : ℕ) (pair : ℕ × ℕ) → HasTraffic net policy i pair.0 pair.1 → AreLocations net pair
 locations net policy i pair h = (host-within net pair.0 (source_of h.packet) h.proper.source, host-within net pair.1 (destination_of h.packet) h.proper.destination)

@@ -3,21 +3,21 @@ ghost use Rattle.std.specs.Prelude.{◌≡◌, ◌++◌, IfOk};
 ghost use Rattle.std.specs.Prelude.{OnOk};
 ghost use Rattle.std.specs.Fmt.{decimal};
 ghost use Rattle.packet_model.specs.Texts.{packet_text};
-ghost use Rattle.merlin.specs.Compiler.{early_fault_text as text_of_early_fault};
-ghost use Rattle.merlin.specs.Refusals.{net_fault_text as text_of_net_fault};
-ghost use Rattle.merlin.specs.Refusals.{policy_fault_text as text_of_policy_fault};
-ghost use Rattle.merlin.specs.Refusals.{excess_text as text_of_excess, shared_port_text as text_of_shared_port};
-ghost use Rattle.merlin.specs.Refusals.{overlap_text as text_of_overlap, conflict_text as text_of_conflict};
-ghost use Rattle.merlin.specs.Refusals.{rate_fault_text as text_of_rate_fault, check_fault_text as text_of_check_fault};
-ghost use Rattle.merlin.specs.Refusals.{hosts_text, ends_text as text_of_ends, ends_fault_text as text_of_ends_fault};
-ghost use Rattle.merlin.specs.Refusals.{rule_fault_text as text_of_rule_fault, AreLocations, NamesLocations};
+ghost use Rattle.refusal_text.specs.Refusals.{net_fault_text as text_of_net_fault};
+ghost use Rattle.refusal_text.specs.Refusals.{policy_fault_text as text_of_policy_fault};
+ghost use Rattle.refusal_text.specs.Refusals.{excess_text as text_of_excess, shared_port_text as text_of_shared_port};
+ghost use Rattle.refusal_text.specs.Refusals.{overlap_text as text_of_overlap, conflict_text as text_of_conflict};
+ghost use Rattle.refusal_text.specs.Refusals.{rate_fault_text as text_of_rate_fault, check_fault_text as text_of_check_fault};
+ghost use Rattle.refusal_text.specs.Refusals.{hosts_text, ends_text as text_of_ends, ends_fault_text as text_of_ends_fault};
+ghost use Rattle.refusal_text.specs.Refusals.{rule_fault_text as text_of_rule_fault, AreLocations, NamesLocations};
+ghost use Rattle.refusal_text.specs.Refusals.{program_fault_text as text_of_program_fault, heavy_text as text_of_heavy};
 
-use crate::compiler::EarlyFault;
 use localise::RateFault;
 use merlin_base::{Name, OutOfMemory, name_from};
 use openflow_rules::RuleFault;
 use packet_model::{Packet, print_packet};
 use policy_check::{CheckFault, EndsFault};
+use policy_flows::ProgramFault;
 use policy_parser::PolicyFault;
 use std::alloc::Global;
 use topology::{NetFault, Topology};
@@ -240,7 +240,8 @@ pub fn ends_fault_text(
     }
 }
 
-fn rule_fault_text(alloc: Global, fault: RuleFault) -> Result<Name, OutOfMemory>
+/// What a limit of rules that a policy passes is called. Want of memory has no name.
+pub fn rule_fault_text(alloc: Global, fault: RuleFault) -> Result<Name, OutOfMemory>
     ensures { IfOk result (λ text. text ≡ text_of_rule_fault fault) }
 {
     match fault {
@@ -251,17 +252,25 @@ fn rule_fault_text(alloc: Global, fault: RuleFault) -> Result<Name, OutOfMemory>
     }
 }
 
-/// What the fault is called. Want of memory has no name.
-pub fn early_fault_text(alloc: Global, fault: &EarlyFault) -> Result<Name, OutOfMemory>
-    ensures { IfOk result (λ text. text ≡ text_of_early_fault fault.now) }
+/// What the program of guaranteed statements has too many of. Want of memory, and a statement that is too heavy on a link, have no name here.
+pub fn program_fault_text(alloc: Global, fault: ProgramFault) -> Result<Name, OutOfMemory>
+    ensures { IfOk result (λ text. text ≡ text_of_program_fault fault) }
 {
     match fault {
-        EarlyFault::Policy(fault) => policy_fault_text(alloc, fault),
-        EarlyFault::Net(fault) => net_fault_text(alloc, fault),
-        EarlyFault::Check(fault) => check_fault_text(alloc, fault),
-        EarlyFault::Ends { text, .. } => text.copy(alloc),
-        EarlyFault::Unbuilt => plain_text(alloc, "unbuilt"),
-        EarlyFault::Rules(fault) => rule_fault_text(alloc, *fault),
-        EarlyFault::OutOfMemory => Err(OutOfMemory),
+        ProgramFault::Vertices { .. } => plain_text(alloc, "more than 8192 vertices"),
+        ProgramFault::Edges { .. } => plain_text(alloc, "more than 32768 edges"),
+        ProgramFault::Heavy { .. } => Err(OutOfMemory),
+        ProgramFault::OutOfMemory => Err(OutOfMemory),
     }
+}
+
+/// The text for a statement whose guarantee is too heavy for the weight of a link.
+pub fn heavy_text(alloc: Global, id: &Name, link: usize) -> Result<Name, OutOfMemory>
+    ensures { IfOk result (λ text. text ≡ text_of_heavy id.now link) }
+{
+    let link = format!(in alloc; " {link}")?;
+    let mut bytes = Vec::from_slice(alloc, b"weight ")?;
+    bytes.extend_from_slice(id.bytes())?;
+    bytes.extend_from_slice(link.as_bytes())?;
+    name_from(alloc, &bytes)
 }

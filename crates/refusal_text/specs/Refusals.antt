@@ -13,6 +13,8 @@ use Rattle.policy_check.specs.declared.fault.EndsFault.{EndsFault}
 use Rattle.policy_check.specs.declared.fault.EndsFault.TheVariants as ends_faults
 use Rattle.openflow_rules.specs.declared.fault.RuleFault.{RuleFault}
 use Rattle.openflow_rules.specs.declared.fault.RuleFault.TheVariants as rule_faults
+use Rattle.policy_flows.specs.declared.fault.ProgramFault.{ProgramFault}
+use Rattle.policy_flows.specs.declared.fault.ProgramFault.TheVariants as program_faults
 use Rattle.topology.specs.Look.{name_of}
 use Rattle.topology_rules.specs.declared.fault.NetFault.{NetFault}
 use Rattle.topology_rules.specs.declared.fault.NetFault.TheVariants as net_faults
@@ -99,6 +101,16 @@ rule_fault_text (rule_faults.TooManyTags count) = codes "more than 4094 tags"
 rule_fault_text (rule_faults.TooManyCells count) = codes "more than 524288 cells"
 rule_fault_text (rule_faults.TooManyEntries count) = codes "more than 524288 entries"
 rule_fault_text rule_faults.OutOfMemory = []
+
+abbrev pub program_fault_text : ProgramFault → List ℕ
+program_fault_text (program_faults.Vertices count) = codes "more than 8192 vertices"
+program_fault_text (program_faults.Edges count) = codes "more than 32768 edges"
+program_fault_text (program_faults.Heavy statement link) = []
+program_fault_text program_faults.OutOfMemory = []
+
+-- a guarantee that is too heavy for the weight of a link
+abbrev pub heavy_text : List ℕ → ℕ → List ℕ
+heavy_text id link = codes "weight " ++ (id ++ (codes " " ++ decimal link))
 
 -- both are locations of the network
 abbrev pub AreLocations : Network → ℕ × ℕ → Type 0

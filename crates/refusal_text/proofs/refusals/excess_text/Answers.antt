@@ -1,6 +1,6 @@
 use Rattle.std.proofs.Common.{◌≡◌, ◌++◌, ◌-◌, IfOk, ℕ, List, codes, ◌∙◌, ap, subst}
 use Rattle.std.specs.Fmt.{decimal}
-use Rattle.merlin.proofs.refusals.excess_text.Goals as goal
+use Rattle.refusal_text.proofs.refusals.excess_text.Goals as goal
 
 pub returns : goal.returns
 returns c =

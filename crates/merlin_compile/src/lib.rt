@@ -1,0 +1,12 @@
+//! From the bytes of a policy and a topology to walks for the guarantees, the configuration of all devices and a certificate.
+#![tactic(auto)]
+
+mod compiler;
+mod fault;
+mod identifying;
+mod outcome;
+mod provisioning;
+
+pub use compiler::compile;
+pub use fault::{CompileFault, compile_fault_text};
+pub use outcome::{Compiled, Partial, Solved};

@@ -1,5 +1,5 @@
 -- Why two texts compile to nothing, in the order in which it is asked.
-use Rattle.std.specs.Prelude.{ℕ, ◌≡◌, ⊤, List, Some, slice_get, ◌++◌}
+use Rattle.std.specs.Prelude.{ℕ, ◌≡◌, ⊤, List, [], Some, slice_get}
 use Rattle.merlin_model.specs.declared.policy.Ends.{Ends}
 use Rattle.merlin_model.specs.Networks.{Network}
 use Rattle.rate_formula.specs.Usage.{ids_in}
@@ -41,13 +41,13 @@ pub record HasManyRules (net : Network) (raw : Policy) (checked : CheckedPolicy)
   pub passes : PassesLimit net checked ends fault
 
 -- The program of guaranteed statements has too many vertices or edges. What is too heavy is said by the next definition.
-abbrev pub IsTooLarge : Network → CheckedPolicy → List Ends → ProgramFault → Type 0
-IsTooLarge net checked ends (program_faults.Vertices count) =
+abbrev pub PassesProgramLimit : Network → CheckedPolicy → List Ends → ProgramFault → Type 0
+PassesProgramLimit net checked ends (program_faults.Vertices count) =
     RefusesStatements net (checked_parts net checked) ends (program_faults.Vertices count)
-IsTooLarge net checked ends (program_faults.Edges count) =
+PassesProgramLimit net checked ends (program_faults.Edges count) =
     RefusesStatements net (checked_parts net checked) ends (program_faults.Edges count)
-IsTooLarge net checked ends (program_faults.Heavy statement link) = ⊥
-IsTooLarge net checked ends program_faults.OutOfMemory = ⊤
+PassesProgramLimit net checked ends (program_faults.Heavy statement link) = ⊥
+PassesProgramLimit net checked ends program_faults.OutOfMemory = ⊤
 
 -- the first statement, by its id, whose guarantee costs too much on a link, and its least such link
 pub record IsTooHeavy (net : Network) (checked : CheckedPolicy) (ends : List Ends) (id : List ℕ) (link : ℕ) : Type 0 where
@@ -58,7 +58,7 @@ pub record IsTooHeavy (net : Network) (checked : CheckedPolicy) (ends : List End
 pub record HasLargeProgram (net : Network) (raw : Policy) (checked : CheckedPolicy) (fault : ProgramFault) : Type 0 where
   pub ends : List Ends
   pub rules : HasFewRules net raw checked ends
-  pub large : IsTooLarge net checked ends fault
+  pub large : PassesProgramLimit net checked ends fault
 
 pub record HasHeavyGuarantee (net : Network) (raw : Policy) (checked : CheckedPolicy) (id : List ℕ) (link : ℕ) : Type 0 where
   pub ends : List Ends

@@ -27,7 +27,7 @@ use Rattle.merlin_compile.specs.declared.fault.CompileFault.TheVariants as fault
 use Rattle.merlin_compile.specs.declared.provisioning.Provision.{Provision}
 use Rattle.merlin_compile.specs.declared.provisioning.Provision.TheVariants.{Least, Infeasible, Budget}
 use Rattle.merlin_compile.specs.Input.{WasChecked, HasOnePairs, HasFewRules}
-use Rattle.merlin_compile.specs.Causes.{IsTooLarge, IsTooHeavy}
+use Rattle.merlin_compile.specs.Causes.{PassesProgramLimit, IsTooHeavy}
 use Rattle.merlin_compile.specs.Compiled.{AreIdsOf, IsProvisioned}
 
 -- of some policy over names
@@ -84,7 +84,7 @@ IsProvisionOf net checked ends objective budget (Budget ids best bound tree) =
 
 -- why the program of its guarantees gives nothing
 abbrev pub IsProgramRefused : Network → CheckedPolicy → List Ends → CompileFault → Type 0
-IsProgramRefused net checked ends (faults.Program fault) = IsTooLarge net checked ends fault
+IsProgramRefused net checked ends (faults.Program fault) = PassesProgramLimit net checked ends fault
 IsProgramRefused net checked ends (faults.Heavy id link) = IsTooHeavy net checked ends id link
 IsProgramRefused net checked ends faults.OutOfMemory = ⊤
 IsProgramRefused net checked ends fault = ⊥
@@ -96,7 +96,7 @@ pub record IsProvisionWithin (net : Network) (checked : CheckedPolicy) (ends : L
 
 abbrev pub IsPlanRefused : Network → CheckedPolicy → List Ends → CompileFault → Type 0
 IsPlanRefused net checked ends (faults.Rules fault) = PassesLimit net checked ends fault
-IsPlanRefused net checked ends (faults.Program fault) = IsWithinLimits net checked ends × IsTooLarge net checked ends fault
+IsPlanRefused net checked ends (faults.Program fault) = IsWithinLimits net checked ends × PassesProgramLimit net checked ends fault
 IsPlanRefused net checked ends (faults.Heavy id link) = IsWithinLimits net checked ends × IsTooHeavy net checked ends id link
 IsPlanRefused net checked ends faults.OutOfMemory = ⊤
 IsPlanRefused net checked ends fault = ⊥

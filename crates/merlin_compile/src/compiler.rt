@@ -9,7 +9,7 @@ ghost use Rattle.merlin_compile.specs.Provisions.{IsProvisionFor};
 
 use crate::fault::CompileFault;
 use crate::outcome::{Compiled, Partial, Solved};
-use crate::provisioning::{Provision, provision};
+use crate::provisioning::{Provision, provide};
 use merlin_model::limits::MAX_NODES;
 use merlin_model::policy::Objective;
 use policy_parser::{Policy as NamedPolicy, parse};
@@ -72,7 +72,7 @@ fn compile_over(
         IfErr result (λ fault. IsCompileFault fault text topology.now) }
 {
     let net = read(alloc, topology)?;
-    match provision(alloc, policy, &net, objective, budget) {
+    match provide(alloc, policy, &net, objective, budget) {
         Ok(provision) => Ok(compiled_with(net, objective, provision)),
         Err(fault) => Err(fault),
     }

@@ -8,8 +8,10 @@ use openflow_rules::RuleFault;
 use policy_check::{CheckFault, EndsFault};
 use policy_flows::ProgramFault;
 use policy_parser::PolicyFault;
-use refusal_text::{check_fault_text, heavy_text, net_fault_text, policy_fault_text};
-use refusal_text::{program_fault_text, rule_fault_text};
+use refusal_text::{
+    check_fault_text, heavy_text, net_fault_text, policy_fault_text, program_fault_text,
+    rule_fault_text,
+};
 use std::alloc::Global;
 use topology::NetFault;
 

@@ -37,9 +37,6 @@ pub struct Partial {
 pub enum Compiled {
     Least(Solved),
     /// No assignment is feasible, as the tree shows.
-    Infeasible {
-        objective: Objective,
-        tree: Tree,
-    },
+    Infeasible { objective: Objective, tree: Tree },
     Budget(Partial),
 }

@@ -315,7 +315,7 @@ fn provision_checked(
 /// # Errors
 /// The first of: the first rule that is broken; what is wrong with the ends of guaranteed statements; the first limit that tags, cells or
 /// entries pass; and that the program of the guaranteed statements has too many vertices or edges, or a statement that is too heavy on a link.
-pub fn provision(
+pub fn provide(
     alloc: Global,
     policy: &Policy,
     net: &Topology,

@@ -103,13 +103,15 @@ module _ (net : Network) where
   groups-back [] [] z = tt
   groups-back [] (h ∷ hs) z = absurd z
   groups-back (g ∷ gs) [] z = absurd z
-  groups-back (g ∷ gs) (h ∷ hs) z =
-      (record {
-        same = sym z.0.same;
-        between = subst (IsBetweenHosts net) z.0.same z.0.between;
-        bound = z.0.bound;
-        alike = alike-back net g.automaton h.automaton z.0.bound z.0.alike;
-      }, groups-back gs hs z.1)
+  groups-back (g ∷ gs) (h ∷ hs) z = (
+    record {
+      same = sym z.0.same;
+      between = subst (IsBetweenHosts net) z.0.same z.0.between;
+      bound = z.0.bound;
+      alike = alike-back net g.automaton h.automaton z.0.bound z.0.alike;
+    },
+    groups-back gs hs z.1,
+  )
 
   vertex-in : (gs hs : List Group) → AllZip (AreAlike net) gs hs → (k d : ℕ) (v : Vertex) → IsVertex net gs k d v → IsVertex net hs k d v
   vertex-in [] [] z k d v h = absurd h

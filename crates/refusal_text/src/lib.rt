@@ -4,4 +4,7 @@
 mod refusals;
 
 pub use merlin_base::{Name, OutOfMemory};
-pub use refusals::{check_fault_text, ends_fault_text, heavy_text, net_fault_text, policy_fault_text, program_fault_text, push_named, rule_fault_text};
+pub use refusals::{
+    check_fault_text, ends_fault_text, heavy_text, net_fault_text, policy_fault_text,
+    program_fault_text, push_named, rule_fault_text,
+};

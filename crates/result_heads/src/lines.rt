@@ -32,7 +32,8 @@ pub(crate) fn objective_words(objective: Objective) -> &'static str
 
 // A text and a value.
 fn valued_text(alloc: Global, text: &str, value: Value) -> Result<String, OutOfMemory>
-    ensures { IfOk result (λ line. string_bytes line ≡ text.now ++ (codes " " ++ value_text value)) }
+    ensures { IfOk result (λ valued. string_bytes valued ≡
+        text.now ++ (codes " " ++ value_text value)) }
 {
     match value {
         Value::Whole(number) => Ok(format!(in alloc; "{text} {number}")?),

@@ -4,6 +4,7 @@
 mod compiler;
 mod fault;
 mod identifying;
+pub mod laws;
 mod outcome;
 mod provisioning;
 

@@ -1,15 +1,15 @@
 -- Reading the nodes of a tree, and where it goes wrong.
-use Rattle.std.proofs.Common.{◌≡◌, ℕ, ◌+◌, ◌-◌, ◌^◌, ◌≤◌, ◌<◌, inr, List, [], ◌∷◌, ◌++◌, length, Result, Ok, Err, IfErr, IsErrAnd, sym, ◌∙◌, ap, subst, append_assoc, append-nil, arith}
-use Rattle.merlin_model.specs.declared.certificate.Tree.{Tree, Leaf, Split, Split', Unclosed, end_of-Tree, more_of-Tree}
-use Rattle.merlin_model.specs.Trees.{Node, Leaf_node, Split_node, Open_end}
+use Rattle.std.proofs.Common.{◌≡◌, ℕ, ◌+◌, ◌-◌, ◌^◌, ◌≤◌, ◌<◌, List, [], ◌++◌, length, Result, Ok, Err, IfErr, IsErrAnd, sym, ◌∙◌, ap, subst, append_assoc, append-nil, arith}
+use Rattle.merlin_model.specs.declared.certificate.Tree.{Tree, Split, Unclosed}
+use Rattle.merlin_model.specs.Trees.{Node, Split_node}
 use Rattle.certificate_text.specs.declared.fault.LineFault.{LineFault}
 use Rattle.certificate_text.specs.declared.fault.LineFault.TheVariants.{Wrong, Memory}
-use Rattle.merlin_base.specs.Faults.{IsWholeLines, GoesWrong}
+use Rattle.merlin_base.specs.Faults.{GoesWrong}
 use Rattle.merlin_base.specs.NodeTexts.{node_line, IsNodeLine, nodes_in, node_lines, IsWithin}
 use Rattle.certificate_text.specs.Outcomes.{IsLineFault}
-use Rattle.merlin_base.proofs.NodeLines.{node_front, front_free, line_behind, line_once, line_is}
-use Rattle.merlin_base.proofs.NodeTexts.{root, later, lines_are, AreLines, root_line, split_lines, halves, some_node, split_count, node_lines-Split, tree_once, lines_whole, split_is}
-use Rattle.merlin_base.proofs.TreeSkips.{first_line, three, IsSplitTree, split_down, line_whole}
+use Rattle.merlin_base.proofs.NodeLines.{node_front, front_free, line_behind, line_once}
+use Rattle.merlin_base.proofs.NodeTexts.{root, later, AreLines, root_line, split_lines, halves, some_node, split_count, node_lines-Split, tree_once, lines_whole}
+use Rattle.merlin_base.proofs.TreeSkips.{first_line, three, split_down, line_whole}
 use Rattle.merlin_base.proofs.WrongLines.{line_wrong, lift_wrong, whole_lines}
 
 -- the error of a `?`

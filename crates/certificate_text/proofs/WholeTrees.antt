@@ -1,19 +1,17 @@
 -- The text of a tree, from the first line to the last.
-use Rattle.std.proofs.Common.{◌≡◌, ℕ, ◌+◌, ◌-◌, ◌≤◌, ◌<◌, inr, ℤ, Bool, Option, List, [], ◌∷◌, ◌++◌, map, take, length, Result, Ok, Err, OnOk, get_or, refl, sym, ◌∙◌, ap, append_assoc, append-nil, arith}
-use Rattle.std.proofs.lemmas.List.{append_cancel_left, take_more, map-append, length-map}
+use Rattle.std.proofs.Common.{◌≡◌, ℕ, ◌+◌, ◌-◌, ◌≤◌, inr, Bool, Option, List, [], ◌∷◌, ◌++◌, length, refl, sym, ◌∙◌, ap, append_assoc, append-nil, arith}
+use Rattle.std.proofs.lemmas.List.{append_cancel_left, length-map}
 use Rattle.std.specs.Prelude.{codes}
-use Rattle.merlin_model.specs.declared.certificate.Weight.{Weight}
-use Rattle.merlin_model.specs.declared.certificate.Tree.{Tree, Split, Unclosed}
-use Rattle.merlin_model.specs.Trees.{nodes_of, Split_node}
+use Rattle.merlin_model.specs.declared.certificate.Tree.{Tree, Unclosed}
+use Rattle.merlin_model.specs.Trees.{nodes_of}
 use Rattle.certificate_text.specs.declared.fault.LineFault.{LineFault}
 use Rattle.certificate_text.specs.declared.fault.LineFault.TheVariants.{Wrong, Memory}
 use Rattle.merlin_base.specs.Faults.{IsFirstWrongLine, GoesWrong}
-use Rattle.merlin_base.specs.Pairs.{pair_text, pairs_text}
-use Rattle.merlin_base.specs.NodeTexts.{pair_of, node_line, nodes_in, node_lines, IsWithin}
+use Rattle.merlin_base.specs.NodeTexts.{nodes_in, node_lines, IsWithin}
 use Rattle.certificate_text.specs.TreeTexts.{tree_text, IsTreeText}
 use Rattle.certificate_text.specs.Outcomes.{IsLineFault}
 use Rattle.merlin_base.proofs.Cutting.{Free}
-use Rattle.merlin_base.proofs.NodeTexts.{AreLines, node_lines-Split, tree_once, lines_whole, counted}
+use Rattle.merlin_base.proofs.NodeTexts.{AreLines, tree_once, lines_whole, counted}
 use Rattle.certificate_text.proofs.NodeReads.{one_end}
 use Rattle.merlin_base.proofs.WrongLines.{line_wrong, lift_wrong, whole_wrong, whole_lines, past_end}
 
@@ -82,20 +80,3 @@ pub few_nodes : (tree : Tree) → IsTreeText tree → (box : List (Option Bool))
 few_nodes tree is box =
     let c = counted tree box [] in let few = is.few in
     let n = length-map (nodes_of tree []) (λ node. node.1) in omega arith
-
--- Printing.
-
-pub pairs_more : (weights : List Weight) (k : ℕ) (d : Weight) → k < length weights → pairs_text (map pair_of (take (k + 1) weights)) ≡ pairs_text (map pair_of (take k weights)) ++ pair_text (pair_of (get_or weights k d))
-pairs_more weights k d h = ap (λ ws. pairs_text (map pair_of ws)) (take_more weights k d h) ∙ ap pairs_text (map-append pair_of (take k weights) (get_or weights k d ∷ [])) ∙ push (map pair_of (take k weights)) (pair_of (get_or weights k d))
-  where
-    push : (ps : List (ℕ × ℤ)) (p : ℕ × ℤ) → pairs_text (ps ++ p ∷ []) ≡ pairs_text ps ++ pair_text p
-    push [] p = append-nil (pair_text p)
-    push (q ∷ qs) p = ap (λ z. pair_text q ++ z) (push qs p) ∙ sym (append_assoc (pair_text q) (pairs_text qs) (pair_text p))
-
-pub printed : {X E : Type 0} (r : Result X E) (out a b new : List ℕ) (v : ℕ) (low high tree low' high' : Tree) → tree ≡ Split v low high → low' ≡ low → high' ≡ high → a ≡ out ++ node_line (Split_node v) → b ≡ a ++ node_lines low' →
-    OnOk r (new ≡ b ++ node_lines high') → OnOk r (new ≡ out ++ node_lines tree)
-printed (Err x) out a b new v low high tree low' high' e f g h k l = tt
-printed (Ok x) out a b new v low high tree low' high' e f g h k l =
-    l ∙ ap (λ z. z ++ node_lines high') (k ∙ ap (λ z. z ++ node_lines low') h) ∙ ap (λ z. ((out ++ node_line (Split_node v)) ++ node_lines low') ++ node_lines z) g ∙ ap (λ z. ((out ++ node_line (Split_node v)) ++ node_lines z) ++ node_lines high) f
-    ∙ append_assoc (out ++ node_line (Split_node v)) (node_lines low) (node_lines high) ∙ append_assoc out (node_line (Split_node v)) (node_lines low ++ node_lines high)
-    ∙ ap (λ z. out ++ z) (sym (ap node_lines e ∙ node_lines-Split v low high))

@@ -3,3 +3,4 @@ pub mod ProgramTexts
 pub mod Outcomes
 pub mod TreeAnswers
 pub mod ProgramAnswers
+pub mod Preorder

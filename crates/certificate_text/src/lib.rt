@@ -6,6 +6,8 @@ mod line;
 mod pairs;
 mod program;
 mod tree;
+mod writing;
 
 pub use program::{ProgramTextFault, read_program};
-pub use tree::{TreeTextFault, print_tree, read_tree};
+pub use tree::{TreeTextFault, read_tree};
+pub use writing::{print_tree, write_tree};

@@ -1,22 +1,21 @@
-//! Trees as texts: recursive descent over the lines of the nodes, in preorder.
+//! Texts as trees: recursive descent over the lines of the nodes, in preorder.
 
-ghost use Rattle.std.specs.Prelude.{ℕ, ◌≡◌, ◌≤◌, ◌<◌, ◌+◌, ◌-◌, ◌^◌, ◌++◌, List, length, map, Ok, string_bytes, IfOk, IfErr, OnOk, Option, Bool};
+ghost use Rattle.std.specs.Prelude.{ℕ, ◌≡◌, ◌≤◌, ◌<◌, ◌+◌, ◌-◌, ◌^◌, ◌++◌, List, length, Ok, IfOk, IfErr, OnOk, Option, Bool};
 ghost use Rattle.std.specs.List.{AllByRecursion};
 ghost use Rattle.merlin_model.specs.declared.certificate.Tree.{Tree};
 ghost use Rattle.merlin_model.specs.Trees.{nodes_of};
 ghost use Rattle.merlin_base.specs.Faults.{IsFirstWrongLine, GoesWrong};
-ghost use Rattle.merlin_base.specs.Pairs.{pairs_text};
-ghost use Rattle.merlin_base.specs.NodeTexts.{pair_of, node_lines, nodes_in, IsNodeLine, IsWithin};
+ghost use Rattle.merlin_base.specs.NodeTexts.{node_lines, nodes_in, IsNodeLine, IsWithin};
 ghost use Rattle.certificate_text.specs.TreeTexts.{tree_text, IsTreeText};
 ghost use Rattle.certificate_text.specs.Outcomes.{IsLineFault};
 ghost use Rattle.certificate_text.specs.TreeAnswers.{IsTreeFault};
 
 use crate::fault::LineFault;
 use crate::line::{Line, read_line};
-use certificate::{Tree, Weight};
+use certificate::Tree;
 use merlin_base::strip_front;
+use merlin_model::OutOfMemory;
 use merlin_model::limits::MAX_NODES;
-use merlin_model::{Name, OutOfMemory, name_from};
 use sqlite_items::Boxed;
 use std::alloc::{AllocError, Global};
 
@@ -100,52 +99,4 @@ pub fn read_tree(alloc: Global, bytes: &[u8]) -> Result<Tree, TreeTextFault>
         }),
         Err(LineFault::Memory) => Err(TreeTextFault::OutOfMemory),
     }
-}
-
-// Adds weights to the end of a line.
-fn print_weights(out: &mut String, weights: &[Weight]) -> Result<(), AllocError>
-    ensures { let text = pairs_text (map pair_of weights.now) in
-        OnOk result (string_bytes out.new ≡ string_bytes out.old ++ text) }
-{
-    for w in weights {
-        let row = w.row;
-        let weight = w.weight;
-        write!(out, " {row}:{weight}")?;
-    }
-    Ok(())
-}
-
-// Adds the lines of the nodes.
-fn print_nodes(out: &mut String, tree: &Tree) -> Result<(), AllocError>
-    ensures { let text = node_lines tree.now in
-        OnOk result (string_bytes out.new ≡ string_bytes out.old ++ text) }
-{
-    match tree {
-        Tree::Leaf(weights) => {
-            out.push_str("leaf")?;
-            print_weights(out, weights.as_slice())?;
-            out.push_str("\n")
-        }
-        Tree::Split {
-            variable,
-            zero,
-            one,
-        } => {
-            write!(out, "split {variable}\n")?;
-            print_nodes(out, zero.get())?;
-            print_nodes(out, one.get())
-        }
-        Tree::Unclosed => out.push_str("open\n"),
-    }
-}
-
-/// The text of a tree. It is read back where the tree is within the limits.
-pub fn print_tree(alloc: Global, tree: &Tree) -> Result<Name, OutOfMemory>
-    ensures { IfOk result (λ name. name ≡ tree_text tree.now) }
-{
-    let mut out = String::new(alloc);
-    out.push_str("tree\n")?;
-    print_nodes(&mut out, tree)?;
-    out.push_str("end\n")?;
-    name_from(alloc, out.as_bytes())
 }

@@ -3,6 +3,7 @@
 ghost use Rattle.std.specs.Prelude.{◌<◌, ◌≤◌, length, map, IfOk, IfErr};
 ghost use Rattle.std.specs.List.{AllByRecursion};
 ghost use Rattle.merlin_model.specs.Policies.{Policy};
+ghost use Rattle.policy_check.specs.declared.guarantees.TheConstants.{MAX_GUARANTEES};
 ghost use Rattle.policy_flows.specs.Layouts.{statement_parts, HasParts};
 ghost use Rattle.policy_flows.specs.Faults.{RefusesStatements};
 ghost use Rattle.merlin_program.specs.Guaranteed.{ArePartsIn};
@@ -33,7 +34,7 @@ pub fn find_walks_of(
 ) -> Result<WalksFound, ProgramFault>
     requires some { 0 < budget }
     requires most { budget ≤ MAX_NODES }
-    requires few { length ends.now ≤ 64 }
+    requires few { length ends.now ≤ MAX_GUARANTEES }
     requires parts { AllByRecursion
         (HasParts net.now (map (λ a. a.now) automata.now) rates.now) ends.now }
     ensures ok { (policy : Policy) →

@@ -1,7 +1,7 @@
 //! What is found for guaranteed statements, from what a search answers.
 
 ghost use Rattle.std.specs.Prelude.{ℕ, ◌≡◌, ◌<◌, length, List, Option, None, Some, IfOk};
-ghost use Rattle.cutoff_program.specs.Flows.{cutoff_of};
+ghost use Rattle.cutoff_program.specs.Flows.{cutoff_of, variables_of};
 ghost use Rattle.program_walks.specs.Bounds.{IsSeparateBound, HasFlowWithoutTrail};
 ghost use Rattle.walk_search.specs.Found.{IsFoundOf};
 ghost use Rattle.walk_search.specs.Searched.{IsNeatSolution, IsLeastSolution, IsStoppedAt, IsOutcomeOf, AreWalksIf};
@@ -44,10 +44,10 @@ fn least_of(
     point: Items<bool>,
     value: Value,
     tree: Tree,
-    _budget: usize,
 ) -> Result<WalksFound, OutOfMemory>
-    requires least { IsLeastSolution program.now.problem _budget point value tree }
-    ensures { IfOk result (IsFoundOf program.now.problem program.now.symbols _budget) }
+    requires { length point ≡ length (variables_of program.now.problem) }
+    ensures { (budget : ℕ) → IsLeastSolution program.now.problem budget point value tree →
+        IfOk result (IsFoundOf program.now.problem program.now.symbols budget) }
 {
     let _variables = program.edges();
     let walks = program.assignment_of(alloc, point.as_slice())?;
@@ -90,10 +90,10 @@ fn spent_of(
     program: &MerlinProgram,
     best: Option<Items<bool>>,
     tree: Tree,
-    _budget: usize,
 ) -> Result<WalksFound, OutOfMemory>
-    requires { IsStoppedAt program.now.problem _budget tree best }
-    ensures { IfOk result (IsFoundOf program.now.problem program.now.symbols _budget) }
+    requires { (budget : ℕ) × IsStoppedAt program.now.problem budget tree best }
+    ensures { (budget : ℕ) → IsStoppedAt program.now.problem budget tree best →
+        IfOk result (IsFoundOf program.now.problem program.now.symbols budget) }
 {
     let bound = bound_of(alloc, program)?;
     let best = best_of(alloc, program, best)?;
@@ -105,18 +105,18 @@ pub fn found_of(
     alloc: Global,
     program: &MerlinProgram,
     outcome: Outcome<Value>,
-    budget: usize,
 ) -> Result<WalksFound, OutOfMemory>
-    requires { IsOutcomeOf program.now.problem budget outcome }
-    ensures { IfOk result (IsFoundOf program.now.problem program.now.symbols budget) }
+    requires { (budget : ℕ) × IsOutcomeOf program.now.problem budget outcome }
+    ensures { (budget : ℕ) → IsOutcomeOf program.now.problem budget outcome →
+        IfOk result (IsFoundOf program.now.problem program.now.symbols budget) }
 {
     match outcome {
         Outcome::Least {
             point,
             cutoff,
             tree,
-        } => least_of(alloc, program, point, cutoff, tree, budget),
+        } => least_of(alloc, program, point, cutoff, tree),
         Outcome::Infeasible { tree } => Ok(WalksFound::Infeasible { tree }),
-        Outcome::Budget { best, tree } => spent_of(alloc, program, best, tree, budget),
+        Outcome::Budget { best, tree } => spent_of(alloc, program, best, tree),
     }
 }

@@ -2,7 +2,6 @@
 #![tactic(auto)]
 
 mod checked_policy;
-mod choosing;
 mod finding;
 mod found;
 pub mod laws;

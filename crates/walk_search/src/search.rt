@@ -3,7 +3,6 @@
 ghost use Rattle.std.specs.Prelude.{◌<◌, ◌≤◌, IfOk};
 ghost use Rattle.walk_search.specs.Found.{IsFoundOf};
 
-use crate::choosing::first_free;
 use crate::found::{WalksFound, found_of};
 use bound_search::Search;
 use integer_program::Fixed;
@@ -23,7 +22,8 @@ pub fn search_of(
     ensures { IfOk result (IsFoundOf program.problem program.symbols budget) }
 {
     let prices = price_bound::new(alloc, &program)?;
-    let mut search = Search::new(program, prices, |fixed: &Fixed| first_free(fixed));
+    let choice = walk_choice::new(alloc, &program)?;
+    let mut search = Search::new(program, prices, |fixed: &Fixed| choice.choose(alloc, fixed));
     let outcome = search.run(alloc, budget)?;
-    found_of(alloc, search.program(), outcome, budget)
+    found_of(alloc, search.program(), outcome)
 }

@@ -14,16 +14,18 @@
 //! | `fail read N`, `fail write N` | call N, from 0, on the files or on the sink fails in the next row |
 //! | `= STATUS TEXT` | a row: the command runs, and ends with this status and these lines; further lines follow behind bars |
 //! | `! STATUS TEXT` | a row that must not hold |
+//! | `or STATUS TEXT` | another answer that the row before may have, with its lines |
 //!
-//! In a wanted line the first `*` may stand for digits.
+//! In a wanted line the first `*` may stand for digits, and `..` at its end for any text. A wanted line `..` stands for any lines.
 
 use crate::answers::answer_to;
 use crate::lines::Lines;
-use crate::row::{Row, difference};
+use crate::row::Row;
 use crate::store::{Store, add, add_times, put};
 use merlin_base::OutOfMemory;
 use std::alloc::Global;
 use std::collections::BTreeMap;
+use std::mem;
 
 // A file and a text of it, as `p: [ ]`.
 fn named_text(rest: &str) -> Option<(&str, &str)> {
@@ -42,6 +44,19 @@ fn counted_text(rest: &str) -> Option<(&str, (u64, u64), &str)> {
     let (head, text) = named_text(rest)?;
     let (name, numbers) = head.split_once(' ')?;
     Some((name, numbers_of(numbers)?, text))
+}
+
+// The status of an answer, and its first line, if it has one.
+fn wanted_from(alloc: Global, rest: &str) -> Lines {
+    let (status, first) = rest.split_once(' ').unwrap_or((rest, ""));
+    let mut wanted = Lines::new(alloc);
+    wanted.add(status);
+    wanted.add("\n");
+    if status != rest {
+        wanted.add(first);
+        wanted.add("\n");
+    }
+    wanted
 }
 
 /// The rows so far.
@@ -108,7 +123,7 @@ impl Script {
 
     // Compares what was answered with what the row wants.
     fn compare(&mut self, row: &Row, got: &str) {
-        match difference(row.wanted.text(), got) {
+        match row.difference(got) {
             Some((wanted, found)) if row.is_to_be_right => {
                 self.note_difference(row.line, wanted, found)
             }
@@ -175,19 +190,24 @@ impl Script {
 
     // Begins a row, with its status and its first line, if it has one.
     fn begin_row(&mut self, rest: &str, is_to_be_right: bool) {
-        let (status, first) = rest.split_once(' ').unwrap_or((rest, ""));
-        let mut wanted = Lines::new(self.alloc);
-        wanted.add(status);
-        wanted.add("\n");
-        if status != rest {
-            wanted.add(first);
-            wanted.add("\n");
-        }
         self.row = Some(Row {
             line: self.line,
             is_to_be_right,
-            wanted,
+            wanted: wanted_from(self.alloc, rest),
+            others: Vec::new(self.alloc),
         });
+    }
+
+    // Begins another answer that the open row may have.
+    fn begin_other(&mut self, rest: &str) -> Result<(), OutOfMemory> {
+        match &mut self.row {
+            Some(row) => {
+                let before = mem::replace(&mut row.wanted, wanted_from(self.alloc, rest));
+                row.others.push(before)?;
+            }
+            None => self.note(self.line, "another answer, and no row before it"),
+        }
+        Ok(())
     }
 
     // Begins a file, empty.
@@ -295,14 +315,24 @@ impl Script {
         Ok(())
     }
 
+    // A line without a bar.
+    fn take_line(&mut self, line: &str) -> Result<(), OutOfMemory> {
+        match line.strip_prefix("or ") {
+            Some(rest) => self.begin_other(rest),
+            None => {
+                self.end_block();
+                self.take_word(line)
+            }
+        }
+    }
+
     /// Takes the next line.
     pub fn take(&mut self, line: &str) {
         self.line = self.line.saturating_add(1);
         match line.strip_prefix('|') {
             Some(part) => self.take_part(part.strip_prefix(' ').unwrap_or(part)),
             None => {
-                self.end_block();
-                let done = self.take_word(line);
+                let done = self.take_line(line);
                 self.note_fault(done);
             }
         }

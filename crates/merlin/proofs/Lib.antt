@@ -1,14 +1,10 @@
 pub mod Words
 pub mod Files
-pub mod Nothing
-pub mod Lines
 pub mod Unique
 pub mod Outcomes
-pub mod Named
-pub mod Configured
 pub mod Compiling
+pub mod Certificates
 pub mod Refuting
-pub mod KeptRules
 pub mod Refining
 pub mod Runs
 pub mod Replies

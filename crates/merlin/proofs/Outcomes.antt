@@ -10,6 +10,7 @@ use Rattle.merlin.specs.Outcome.{World, Taking, Answer, NoForm, NotRead, TooLong
 use Rattle.merlin.specs.Parts.{IsReportTo, EndsBy, EndsByResult}
 use Rattle.merlin.specs.declared.report.Report.{Report}
 use Rattle.merlin.specs.declared.compile.CompileReply.TheVariants as compile
+use Rattle.merlin_compile.specs.declared.outcome.Compiled.TheVariants as results
 use Rattle.merlin.specs.declared.refine.RefineReply.TheVariants as refine
 use Rattle.merlin.specs.declared.refute.RefuteReply.TheVariants as refute
 use Rattle.merlin.specs.declared.fair.FairReply.TheVariants as fair
@@ -30,7 +31,9 @@ IsOther ended = ⊥
 not_other : (name : CommandName) (reply : (meaning_of name).ReplyTo)
     → IsOther ((meaning_of name).status reply) → ⊥
 not_other Compiling (compile.Refused fault) h = h
-not_other Compiling (compile.Least compiled) h = h
+not_other Compiling (compile.Compiled (results.Least solved)) h = h
+not_other Compiling (compile.Compiled (results.Infeasible objective tree)) h = h
+not_other Compiling (compile.Compiled (results.Budget partial)) h = h
 not_other Refining (refine.UnreadParent fault) h = h
 not_other Refining (refine.UnreadChild fault) h = h
 not_other Refining (refine.UnreadTopology fault) h = h

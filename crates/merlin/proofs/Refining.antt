@@ -33,7 +33,7 @@ use Rattle.merlin.specs.Reading.{AreContents}
 use Rattle.merlin.specs.Refine.{RefineForm, refine_files, refine_lines, refine_status, AreComparable, HasPolicies, IsWholeRefinement, HasManyCellsTogether, IsWiderText, IsWiderBy, IsFaultOfCells, IsFaultReply, IsUnreadPolicy, HasUnreadChild, HasUnreadTopology, HasWrongParent, HasWrongChild, Negotiates, IsRefineReply}
 use Rattle.merlin.specs.Outcome.{World, Taking}
 use Rattle.merlin.specs.Refinings.{HasNegotiated, HasRefined, HasFoundWider}
-use Rattle.merlin.proofs.KeptRules.{keeps-breaks}
+use Rattle.policy_configuration.proofs.Kept.{unbroken}
 
 done_refused : {A : Type 0} → status.Done ≡ status.Refused → A
 done_refused e = cc
@@ -238,13 +238,13 @@ module _ (known : KnownLaws) where
       no_wrong_parent fault h =
           let told = h.broken in
           let here = broken_here h.net h.parent is.raw_parent fault h.read.of_network (one_parent h.parent h.read.of_parent) told.1 in
-          told.0 (keeps-breaks net (network_symbols net) is.raw_parent fault is.parent_keeps here)
+          told.0 (unbroken net (network_symbols net) is.raw_parent is.parent_keeps fault here)
 
       no_wrong_child : (fault : CheckFault) → HasWrongChild p c t fault → ⊥
       no_wrong_child fault h =
           let told = h.broken in
           let here = broken_here h.net h.child is.raw_child fault h.read.of_network (one_child h.child h.read.of_child) told.1 in
-          told.0 (keeps-breaks net (network_symbols net) is.raw_child fault is.child_keeps here)
+          told.0 (unbroken net (network_symbols net) is.raw_child is.child_keeps fault here)
 
       Negotiates-refines : IsRefinement net parent child → (reply : RefineReply) → Negotiates p c t reply → reply ≡ Refines
       Negotiates-refines k (UnreadParent fault) h = absurd (no_unread_parent fault h)

@@ -1,17 +1,19 @@
 -- What the runs of each command leave.
-use Rattle.std.proofs.Common.{◌≡◌, ℕ, List, [], ◌∷◌, refl, sym, ◌∙◌, subst}
+use Rattle.std.proofs.Common.{◌≡◌, ℕ, List, [], ◌∷◌, refl, sym, ◌∙◌, ap, subst}
 use Rattle.merlin_base.specs.Texts.{joined}
 use Rattle.merlin_base.specs.Outside.{Grows}
 use Rattle.merlin_base.specs.declared.status.Status.{Status}
 use Rattle.merlin_base.specs.declared.status.Status.TheVariants as status
-use Rattle.merlin.specs.declared.compiler.Compiled.{Compiled}
+use Rattle.merlin_compile.specs.declared.outcome.Compiled.{Compiled}
+use Rattle.merlin_compile.specs.declared.outcome.Compiled.TheVariants as results
+use Rattle.merlin_compile.specs.Compiled.{IsCompiledFrom}
+use Rattle.merlin_compile.specs.Written.{compiled_lines}
 use Rattle.merlin.specs.declared.compile.CompileReply.{CompileReply}
-use Rattle.merlin.specs.declared.compile.CompileReply.TheVariants.{Refused, Least}
+use Rattle.merlin.specs.declared.compile.CompileReply.TheVariants as compile
 use Rattle.merlin.specs.declared.refute.RefuteReply.{RefuteReply}
 use Rattle.merlin.specs.declared.refute.RefuteReply.TheVariants.{BadProgram, BadTree, Refuted, NotRefuted}
 use Rattle.merlin.specs.Reading.{AreContents}
-use Rattle.merlin.specs.Compiler.{IsCompiledFrom}
-use Rattle.merlin.specs.Compile.{CompileForm, compile_files, compile_lines, compile_status, IsCompileReply}
+use Rattle.merlin.specs.Compile.{CompileForm, compile_files, compile_lines, compiled_status, compile_status, IsCompileReply}
 use Rattle.merlin.specs.Refute.{RefuteForm, refute_files, refute_lines, refute_status, IsRefuted, IsNotRefuted, IsRefuteReply}
 use Rattle.merlin.specs.declared.fair.FairReply.{FairReply}
 use Rattle.merlin.specs.declared.fair.FairReply.TheVariants as fair
@@ -35,11 +37,26 @@ use Rattle.merlin.specs.Wire.{WireForm, wire_files, wire_lines, wire_status, Has
 use Rattle.merlin.specs.Unwire.{UnwireForm, unwire_files, unwire_lines, unwire_status, HasSwitch, HasRules, IsUnwireReply}
 use Rattle.merlin.specs.Trace.{TraceForm, trace_files, trace_lines, trace_status, HasEnded, HasNoEnd, IsTraceReply}
 use Rattle.merlin.specs.Outcome.{World, Taking, IsReplied, IsOfRepliesAlone, SaysByStatus}
-use Rattle.merlin.specs.Runs.{HasCompiled, HasChecked, HasRefuted, HasFoundFailure, HasDivided, HasFoundSound, HasFoundUnsound, HasTraced, HasFoundNoEnd, HasWritten, HasWired, HasUnwired, KeepsPromises}
+use Rattle.merlin.specs.Runs.{HasCompiled, HasNoAssignment, HasSpentBudget, HasChecked, HasRefuted, HasFoundFailure, HasDivided, HasFoundSound, HasFoundUnsound, HasTraced, HasFoundNoEnd, HasWritten, HasWired, HasUnwired, KeepsPromises}
 use Rattle.merlin.proofs.Unique.{IsForm-same}
 
 done_refused : {A : Type 0} → status.Done ≡ status.Refused → A
 done_refused e = cc
+
+done_infeasible : {A : Type 0} → status.Done ≡ status.Infeasible → A
+done_infeasible e = cc
+
+done_spent : {A : Type 0} → status.Done ≡ status.Budget → A
+done_spent e = cc
+
+infeasible_spent : {A : Type 0} → status.Infeasible ≡ status.Budget → A
+infeasible_spent e = cc
+
+infeasible_refused : {A : Type 0} → status.Infeasible ≡ status.Refused → A
+infeasible_refused e = cc
+
+spent_refused : {A : Type 0} → status.Budget ≡ status.Refused → A
+spent_refused e = cc
 
 done_no : {A : Type 0} → status.Done ≡ status.CheckNo → A
 done_no e = cc
@@ -55,18 +72,18 @@ running_refused e = cc
 
 -- Which reply it was, by its status.
 
-record WasLeast (form : CompileForm) (contents : List (List ℕ)) (reply : CompileReply) : Type 0 where
+record WasCompiled (form : CompileForm) (contents : List (List ℕ)) (reply : CompileReply) : Type 0 where
   policy : List ℕ
   topology : List ℕ
   two : contents ≡ policy ∷ topology ∷ []
   result : Compiled
-  from : IsCompiledFrom policy topology form.objective result
-  is : reply ≡ Least result
+  from : IsCompiledFrom policy topology form.objective form.budget result
+  is : reply ≡ compile.Compiled result
 
-was_least : (form : CompileForm) (contents : List (List ℕ)) (reply : CompileReply)
-    → IsCompileReply form contents reply → status.Done ≡ compile_status reply → WasLeast form contents reply
-was_least form contents (Refused fault) means e = done_refused e
-was_least form contents (Least result) (p, t, two, from) e =
+was_compiled : (form : CompileForm) (contents : List (List ℕ)) (reply : CompileReply) → IsCompileReply form contents reply → (compile_status reply ≡ status.Refused → ⊥)
+    → WasCompiled form contents reply
+was_compiled form contents (compile.Refused fault) means other = absurd (other refl)
+was_compiled form contents (compile.Compiled result) (p, t, two, from) other =
     record { policy = p; topology = t; two = two; result = result; from = from; is = refl }
 
 -- The reply was this one, and this holds of the texts of the two files.
@@ -194,18 +211,50 @@ module _ (world : World) (sink : Taking) (ended : Status) where
       let there : Gives fact replied.form = subst (Gives fact) same gives in
       there replied.contents replied.asked.are_contents replied.reply replied.means replied.status replied.written
 
+  -- by the kind of the result
+  solved_by : (form : CompileForm) (p t : List ℕ) (result : Compiled) → AreContents world.known (compile_files form) (p ∷ t ∷ []) → IsCompiledFrom p t form.objective form.budget result
+      → Grows sink.before sink.after (joined (compiled_lines result)) → status.Done ≡ compiled_status result → HasCompiled world sink form
+  solved_by form p t (results.Least solved) are from grows e = record { policy = p; topology = t; are_contents = are; solved = solved; from = from; written = grows }
+  solved_by form p t (results.Infeasible objective tree) are from grows e = done_infeasible e
+  solved_by form p t (results.Budget partial) are from grows e = done_spent e
+
+  infeasible_by : (form : CompileForm) (p t : List ℕ) (result : Compiled) → AreContents world.known (compile_files form) (p ∷ t ∷ []) → IsCompiledFrom p t form.objective form.budget result
+      → Grows sink.before sink.after (joined (compiled_lines result)) → status.Infeasible ≡ compiled_status result → HasNoAssignment world sink form
+  infeasible_by form p t (results.Least solved) are from grows e = done_infeasible (sym e)
+  infeasible_by form p t (results.Infeasible objective tree) are from grows e =
+      record { policy = p; topology = t; are_contents = are; objective = objective; tree = tree; from = from; written = grows }
+  infeasible_by form p t (results.Budget partial) are from grows e = infeasible_spent e
+
+  spent_by : (form : CompileForm) (p t : List ℕ) (result : Compiled) → AreContents world.known (compile_files form) (p ∷ t ∷ []) → IsCompiledFrom p t form.objective form.budget result
+      → Grows sink.before sink.after (joined (compiled_lines result)) → status.Budget ≡ compiled_status result → HasSpentBudget world sink form
+  spent_by form p t (results.Least solved) are from grows e = done_spent (sym e)
+  spent_by form p t (results.Infeasible objective tree) are from grows e = infeasible_spent (sym e)
+  spent_by form p t (results.Budget partial) are from grows e = record { policy = p; topology = t; are_contents = are; partial = partial; from = from; written = grows }
+
+  written_of : (form : CompileForm) (contents : List (List ℕ)) (reply : CompileReply) (was : WasCompiled form contents reply) → Grows sink.before sink.after (joined (compile_lines reply))
+      → Grows sink.before sink.after (joined (compiled_lines was.result))
+  written_of form contents reply was grows = subst (λ r. Grows sink.before sink.after (joined (compile_lines r))) was.is grows
+
   compiled : (form : CompileForm) → ended ≡ status.Done
       → Gives (HasCompiled world sink form) (record { name = Compiling; request = form })
   compiled form e contents are reply means same grows =
-      let was = was_least form contents reply means (sym e ∙ same) in
-      record {
-        policy = was.policy;
-        topology = was.topology;
-        are_contents = subst (AreContents world.known (compile_files form)) was.two are;
-        compiled = was.result;
-        from = was.from;
-        written = subst (λ r. Grows sink.before sink.after (joined (compile_lines r))) was.is grows;
-      }
+      let was = was_compiled form contents reply means (λ r. done_refused (sym e ∙ same ∙ r)) in
+      solved_by form was.policy was.topology was.result (subst (AreContents world.known (compile_files form)) was.two are) was.from (written_of form contents reply was grows)
+      (sym e ∙ same ∙ ap compile_status was.is)
+
+  infeasible : (form : CompileForm) → ended ≡ status.Infeasible
+      → Gives (HasNoAssignment world sink form) (record { name = Compiling; request = form })
+  infeasible form e contents are reply means same grows =
+      let was = was_compiled form contents reply means (λ r. infeasible_refused (sym e ∙ same ∙ r)) in
+      infeasible_by form was.policy was.topology was.result (subst (AreContents world.known (compile_files form)) was.two are) was.from (written_of form contents reply was grows)
+      (sym e ∙ same ∙ ap compile_status was.is)
+
+  spent : (form : CompileForm) → ended ≡ status.Budget
+      → Gives (HasSpentBudget world sink form) (record { name = Compiling; request = form })
+  spent form e contents are reply means same grows =
+      let was = was_compiled form contents reply means (λ r. spent_refused (sym e ∙ same ∙ r)) in
+      spent_by form was.policy was.topology was.result (subst (AreContents world.known (compile_files form)) was.two are) was.from (written_of form contents reply was grows)
+      (sym e ∙ same ∙ ap compile_status was.is)
 
   refined : (form : RefineForm) → ended ≡ status.Done
       → Gives (HasRefined world sink form) (record { name = Refining; request = form })
@@ -313,6 +362,8 @@ pub KeepsPromises-from_outcome : (world : World) (sink : Taking) (words : List (
 KeepsPromises-from_outcome world sink words ended says =
     record {
       compiled = λ form is e. of_reply world sink ended _ words Compiling form status.Done tt e (compiled world sink ended form e) is says;
+      infeasible = λ form is e. of_reply world sink ended _ words Compiling form status.Infeasible tt e (infeasible world sink ended form e) is says;
+      spent = λ form is e. of_reply world sink ended _ words Compiling form status.Budget tt e (spent world sink ended form e) is says;
       refined = λ form is e. of_reply world sink ended _ words Refining form status.Done tt e (refined world sink ended form e) is says;
       wider = λ form is e. of_reply world sink ended _ words Refining form status.RefineNo tt e (wider world sink ended form e) is says;
       refuted = λ form is e. of_reply world sink ended _ words Refuting form status.Done tt e (refuted world sink ended form e) is says;

@@ -1,5 +1,5 @@
 -- The commands. A new one has a name, what it is, and its form here.
-use Rattle.std.specs.Prelude.{ℕ, List, codes}
+use Rattle.std.specs.Prelude.{ℕ, ⊤, List, codes}
 use Rattle.merlin_base.specs.declared.status.Status.{Status}
 use Rattle.merlin_model.specs.Functions.{Behaviour}
 use Rattle.merlin.specs.declared.commands.Command.{Command}
@@ -12,7 +12,7 @@ use Rattle.merlin.specs.declared.fairness.FairnessReply.{FairnessReply}
 use Rattle.merlin.specs.declared.trace.TraceReply.{TraceReply}
 use Rattle.merlin.specs.declared.wire.WireReply.{WireReply}
 use Rattle.merlin.specs.declared.unwire.UnwireReply.{UnwireReply}
-use Rattle.merlin.specs.Compile.{CompileForm, IsCompileForm, compile_files, IsCompileReply, compile_lines, compile_status, compile_form}
+use Rattle.merlin.specs.Compile.{CompileForm, IsInBudget, IsCompileForm, compile_files, IsCompileReply, compile_lines, compile_status, compile_form}
 use Rattle.merlin.specs.Refine.{RefineForm, IsRefineForm, refine_files, IsRefineReply, refine_lines, refine_status, refine_form}
 use Rattle.merlin.specs.Refute.{RefuteForm, IsRefuteForm, refute_files, IsRefuteReply, refute_lines, refute_status, refute_form}
 use Rattle.merlin.specs.Fair.{FairForm, IsFairForm, fair_files, IsFairReply, fair_lines, fair_status, fair_form}
@@ -144,6 +144,20 @@ form_of (commands.Unwire words) = record { name = Unwiring; request = unwire_for
 -- the words ask for this
 abbrev pub IsForm : List (List ℕ) → Form → Type 0
 IsForm words form = (meaning_of form.name).IsRequest words form.request
+
+-- what a search may be given, where the command has a budget
+abbrev pub HasLawfulBudget : (name : CommandName) → (meaning_of name).Request → Type 0
+HasLawfulBudget Compiling form = IsInBudget form.budget
+HasLawfulBudget Refining form = ⊤
+HasLawfulBudget Refuting form = ⊤
+HasLawfulBudget Dividing form = ⊤
+HasLawfulBudget Judging form = ⊤
+HasLawfulBudget Tracing form = ⊤
+HasLawfulBudget Wiring form = ⊤
+HasLawfulBudget Unwiring form = ⊤
+
+abbrev pub IsLawfulForm : Form → Type 0
+IsLawfulForm form = HasLawfulBudget form.name form.request
 
 abbrev pub files_of : Form → List (List ℕ × ℕ)
 files_of form = (meaning_of form.name).files form.request

@@ -1,22 +1,21 @@
 -- The command `compile`.
-use Rattle.std.specs.Prelude.{◌≡◌, ◌⊎◌, ◌≤◌, ◌*◌, ◌++◌, ℕ, List, [], ◌∷◌, codes, pos, length}
+use Rattle.std.specs.Prelude.{◌≡◌, ◌⊎◌, ◌≤◌, ◌++◌, ℕ, List, [], ◌∷◌, codes}
 use Rattle.merlin_base.specs.Lexemes.{IsDecimal}
 use Rattle.merlin_base.specs.declared.status.Status.{Status}
 use Rattle.merlin_base.specs.declared.status.Status.TheVariants as status
-use Rattle.merlin_model.specs.declared.certificate.Tree.{Tree, Leaf}
 use Rattle.merlin_model.specs.declared.policy.Objective.{Objective}
-use Rattle.merlin_model.specs.declared.policy.Value.{Value}
-use Rattle.std.specs.Fmt.{decimal}
-use Rattle.merlin_model.specs.Networks.{Network}
-use Rattle.config_text.specs.Words.{words, line}
-use Rattle.config_text.specs.Result.{objective_word, objective_text, result_lines}
+use Rattle.config_text.specs.Words.{line}
+use Rattle.config_text.specs.Result.{objective_word}
 use Rattle.merlin.specs.declared.reading.TheConstants.{TEXT_LIMIT}
 use Rattle.merlin.specs.declared.compile.TheConstants.{DEFAULT_BUDGET, MAX_BUDGET}
 use Rattle.merlin.specs.declared.compile.Compile.{Compile}
 use Rattle.merlin.specs.declared.compile.CompileReply.{CompileReply}
-use Rattle.merlin.specs.declared.compile.CompileReply.TheVariants.{Refused, Least}
-use Rattle.merlin.specs.declared.compiler.Compiled.{Compiled}
-use Rattle.merlin.specs.Compiler.{IsRefusal, IsCompiledFrom, early_fault_text}
+use Rattle.merlin.specs.declared.compile.CompileReply.TheVariants as reply
+use Rattle.merlin_compile.specs.declared.outcome.Compiled.{Compiled}
+use Rattle.merlin_compile.specs.declared.outcome.Compiled.TheVariants as results
+use Rattle.merlin_compile.specs.Causes.{IsRefusal, compile_fault_text}
+use Rattle.merlin_compile.specs.Compiled.{IsCompiledFrom}
+use Rattle.merlin_compile.specs.Written.{compiled_lines}
 
 -- Its words and its files.
 
@@ -41,6 +40,10 @@ IsBudget rest budget =
     ⊎ ((text : List ℕ) × (rest ≡ text ∷ []) × IsDecimal text budget
     × (1 ≤ budget) × (budget ≤ MAX_BUDGET))
 
+-- nodes that a search may be given
+abbrev pub IsInBudget : ℕ → Type 0
+IsInBudget budget = (1 ≤ budget) × (budget ≤ MAX_BUDGET)
+
 abbrev pub IsCompileForm : List (List ℕ) → CompileForm → Type 0
 IsCompileForm words form = (rest : List (List ℕ))
     × (words ≡ codes "compile" ∷ form.policy ∷ form.topology ∷ objective_word form.objective ∷ rest)
@@ -52,9 +55,9 @@ compile_files form = (form.policy, TEXT_LIMIT) ∷ (form.topology, TEXT_LIMIT) �
 -- What each reply means of the policy and the topology.
 
 abbrev pub Compiles : CompileForm → List ℕ → List ℕ → CompileReply → Type 0
-Compiles form policy topology (Refused fault) = IsRefusal fault policy topology
-Compiles form policy topology (Least compiled) =
-    IsCompiledFrom policy topology form.objective compiled
+Compiles form policy topology (reply.Refused fault) = IsRefusal fault policy topology
+Compiles form policy topology (reply.Compiled compiled) =
+    IsCompiledFrom policy topology form.objective form.budget compiled
 
 abbrev pub IsCompileReply : CompileForm → List (List ℕ) → CompileReply → Type 0
 IsCompileReply form contents reply = (policy topology : List ℕ)
@@ -62,31 +65,15 @@ IsCompileReply form contents reply = (policy topology : List ℕ)
 
 -- Its lines and its status.
 
--- The certificate where nothing is reserved: one leaf on the last row, which asks for a value below
--- 0. It stands after the rows of the
--- directed links.
-abbrev pub cutoff_leaf : Network → Tree
-cutoff_leaf net = Leaf (record { row = 2 * length net.links; weight = pos 1 } ∷ [])
-
--- a result without walks and loads
-abbrev pub compiled_lines : Compiled → List (List ℕ)
-compiled_lines c = result_lines c.net c.objective c.value [] [] c.config (cutoff_leaf c.net)
-
 abbrev pub compile_lines : CompileReply → List (List ℕ)
-compile_lines (Refused fault) = line (codes "refused: " ++ early_fault_text fault) ∷ []
-compile_lines (Least compiled) = compiled_lines compiled
+compile_lines (reply.Refused fault) = line (codes "refused: " ++ compile_fault_text fault) ∷ []
+compile_lines (reply.Compiled compiled) = compiled_lines compiled
+
+abbrev pub compiled_status : Compiled → Status
+compiled_status (results.Least solved) = status.Done
+compiled_status (results.Infeasible objective tree) = status.Infeasible
+compiled_status (results.Budget partial) = status.Budget
 
 abbrev pub compile_status : CompileReply → Status
-compile_status (Refused fault) = status.Refused
-compile_status (Least compiled) = status.Done
-
--- the head of a result, and this certificate, line by line
-abbrev pub head_lines : Objective → Value → List (List ℕ)
-head_lines objective value =
-    line (codes "merlin 2 ok") ∷ line (objective_text objective value) ∷ []
-
-abbrev pub leaf_lines : ℕ → List (List ℕ)
-leaf_lines row =
-    line (codes "tree")
-    ∷ line (words (codes "leaf" ∷ (decimal row ++ (codes ":" ++ decimal 1)) ∷ []))
-    ∷ line (codes "end") ∷ []
+compile_status (reply.Refused fault) = status.Refused
+compile_status (reply.Compiled compiled) = compiled_status compiled

@@ -10,7 +10,7 @@ use Rattle.topology.specs.Look.{name_of}
 use Rattle.topology_rules.specs.declared.fault.NetFault.{NetFault}
 use Rattle.topology_rules.specs.declared.fault.NetFault.TheVariants.{OutOfMemory}
 use Rattle.topology_rules.specs.Faults.{IsTopology, Refuses as IsRefusedTopology}
-use Rattle.merlin.specs.Refusals.{net_fault_text}
+use Rattle.refusal_text.specs.Refusals.{net_fault_text}
 
 -- why a topology is refused: want of memory is no refusal
 abbrev pub IsWrongTopology : List ℕ → NetFault → Type 0

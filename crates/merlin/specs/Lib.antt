@@ -1,9 +1,6 @@
 pub mod Words
 pub mod Reading
 pub mod Reports
-pub mod Refusals
-pub mod Compiler
-pub mod Configuring
 pub mod Compile
 pub mod Refine
 pub mod Refute

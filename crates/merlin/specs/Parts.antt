@@ -5,13 +5,13 @@ use Rattle.merlin_model.specs.Functions.{Behaviour}
 use Rattle.merlin_base.specs.Texts.{joined}
 use Rattle.merlin_base.specs.Outside.{Grows, GrowsByPrefix}
 use Rattle.merlin_base.specs.declared.status.Status.{Status}
-use Rattle.config_text.specs.Lines.{IsConfigOver}
+use Rattle.merlin_compile.specs.Written.{IsCompiledFromSome}
 use Rattle.merlin.specs.declared.report.Report.{Report}
 use Rattle.merlin.specs.declared.reading.Unread.{Unread}
 use Rattle.merlin.specs.declared.reading.Unread.TheVariants as unread
 use Rattle.merlin.specs.declared.compile.CompileReply.{CompileReply}
-use Rattle.merlin.specs.declared.compile.CompileReply.TheVariants.{Refused, Least}
-use Rattle.merlin.specs.Reports.{IsReportWith}
+use Rattle.merlin.specs.declared.compile.CompileReply.TheVariants as reply
+use Rattle.merlin.specs.Reports.{IsReportWith, report_lines}
 use Rattle.merlin.specs.Commands.{Form, Means, reply_lines, reply_status}
 use Rattle.merlin.specs.Outcome.{World, Taking, IsBrokenOff, LacksMemory, Answer, NotRead, TooLong, IsAnswerTo, answer_lines, answer_status}
 
@@ -22,7 +22,7 @@ IsReplyReport behaviour form contents =
 
 -- the report has the lines and the status of an answer
 pub record IsReportOf (answer : Answer) (report : Report) : Type 0 where
-  pub lines : report.lines.items ≡ answer_lines answer
+  pub lines : report_lines report ≡ answer_lines answer
   pub status : report.status ≡ answer_status answer
 
 -- what is reported where files were not all read
@@ -37,16 +37,16 @@ pub record IsReportTo (world : World) (words : List (List ℕ)) (report : Report
   pub is_answer : IsAnswerTo world words answer
   pub is_report : IsReportOf answer report
 
--- the lines of a result name locations of its network, so that they can be printed
+-- what is replied is the result of some texts, so that it can be printed
 abbrev pub IsPrintable : CompileReply → Type 0
-IsPrintable (Refused fault) = ⊤
-IsPrintable (Least compiled) = IsConfigOver compiled.net compiled.config
+IsPrintable (reply.Refused fault) = ⊤
+IsPrintable (reply.Compiled compiled) = IsCompiledFromSome compiled
 
 -- The sink took the lines of the report, whose status it is, or a prefix of them.
 abbrev pub EndsBy : Taking → Report → Status → Type 0
 EndsBy sink report ended =
-    ((ended ≡ report.status) × Grows sink.before sink.after (joined report.lines.items))
-    ⊎ (IsBrokenOff sink ended × GrowsByPrefix sink.before sink.after (joined report.lines.items))
+    ((ended ≡ report.status) × Grows sink.before sink.after (joined (report_lines report)))
+    ⊎ (IsBrokenOff sink ended × GrowsByPrefix sink.before sink.after (joined (report_lines report)))
 
 -- the same, or there was no memory for a report
 abbrev pub EndsByResult : {E : Type 0} → Taking → Result Report E → Status → Type 0

@@ -30,7 +30,7 @@ use Rattle.merlin.specs.declared.reading.TheConstants.{TEXT_LIMIT}
 use Rattle.merlin.specs.declared.refine.Refine.{Refine}
 use Rattle.merlin.specs.declared.refine.RefineReply.{RefineReply}
 use Rattle.merlin.specs.declared.refine.RefineReply.TheVariants.{UnreadParent, UnreadChild, UnreadTopology, WrongParent, WrongChild, TooManyCells, Wider, Refines}
-use Rattle.merlin.specs.Refusals.{policy_fault_text, net_fault_text, check_fault_text}
+use Rattle.refusal_text.specs.Refusals.{policy_fault_text, net_fault_text, check_fault_text}
 
 -- Its words and its files.
 

@@ -2,12 +2,16 @@
 use Rattle.std.specs.Prelude.{◌≡◌, ℕ, List, [], ◌∷◌}
 use Rattle.merlin_base.specs.Texts.{joined}
 use Rattle.merlin_base.specs.Outside.{Grows}
-use Rattle.merlin.specs.declared.compiler.Compiled.{Compiled}
-use Rattle.merlin.specs.declared.compile.CompileReply.TheVariants.{Least}
+use Rattle.merlin_model.specs.declared.certificate.Tree.{Tree}
+use Rattle.merlin_model.specs.declared.policy.Objective.{Objective}
+use Rattle.merlin_compile.specs.declared.outcome.Solved.{Solved}
+use Rattle.merlin_compile.specs.declared.outcome.Partial.{Partial}
+use Rattle.merlin_compile.specs.Compiled.{IsSolvedFrom, IsInfeasibleFrom, IsPartialFrom}
+use Rattle.merlin_compile.specs.Written.{solved_lines, partial_lines}
+use Rattle.result_heads.specs.Heads.{infeasible_lines}
 use Rattle.merlin.specs.declared.refute.RefuteReply.TheVariants.{Refuted, NotRefuted}
 use Rattle.merlin.specs.Reading.{AreContents}
-use Rattle.merlin.specs.Compiler.{IsCompiledFrom}
-use Rattle.merlin.specs.Compile.{CompileForm, IsCompileForm, compile_files, compile_lines}
+use Rattle.merlin.specs.Compile.{CompileForm, IsCompileForm, compile_files}
 use Rattle.merlin.specs.Refute.{RefuteForm, IsRefuteForm, refute_files, refute_lines, IsRefuted, IsNotRefuted}
 use Rattle.merlin.specs.declared.fairness.FairnessReply.TheVariants.{Sound, Unsound}
 use Rattle.merlin.specs.Fair.{FairForm, IsFairForm, fair_files, IsDivided}
@@ -22,15 +26,34 @@ use Rattle.merlin.specs.Outcome.{World, Taking}
 use Rattle.merlin.specs.Refine.{RefineForm, IsRefineForm}
 use Rattle.merlin.specs.Refinings.{HasRefined, HasFoundWider}
 
--- The sink took exactly the text of the result for these files, and the configuration in it
--- delivers packets as the policy promises.
+-- The sink took exactly the text of the result for these files. It keeps the whole promise: of packets, guarantees and caps,
+-- and that no assignment is better.
 pub record HasCompiled (world : World) (sink : Taking) (form : CompileForm) : Type 0 where
   pub policy : List ℕ
   pub topology : List ℕ
   pub are_contents : AreContents world.known (compile_files form) (policy ∷ topology ∷ [])
-  pub compiled : Compiled
-  pub from : IsCompiledFrom policy topology form.objective compiled
-  pub written : Grows sink.before sink.after (joined (compile_lines (Least compiled)))
+  pub solved : Solved
+  pub from : IsSolvedFrom policy topology form.objective form.budget solved
+  pub written : Grows sink.before sink.after (joined (solved_lines solved))
+
+-- The sink took the text that says that no assignment is feasible, with a tree that shows it.
+pub record HasNoAssignment (world : World) (sink : Taking) (form : CompileForm) : Type 0 where
+  pub policy : List ℕ
+  pub topology : List ℕ
+  pub are_contents : AreContents world.known (compile_files form) (policy ∷ topology ∷ [])
+  pub objective : Objective
+  pub tree : Tree
+  pub from : IsInfeasibleFrom policy topology form.objective form.budget objective tree
+  pub written : Grows sink.before sink.after (joined (infeasible_lines objective tree))
+
+-- The sink took the text of a budget that was spent, with the best walks so far and a bound.
+pub record HasSpentBudget (world : World) (sink : Taking) (form : CompileForm) : Type 0 where
+  pub policy : List ℕ
+  pub topology : List ℕ
+  pub are_contents : AreContents world.known (compile_files form) (policy ∷ topology ∷ [])
+  pub partial : Partial
+  pub from : IsPartialFrom policy topology form.objective form.budget partial
+  pub written : Grows sink.before sink.after (joined (partial_lines partial))
 
 -- The sink took these lines, and this holds of the texts of the two files.
 pub record HasChecked (world : World) (sink : Taking) (files : List (List ℕ × ℕ))
@@ -106,7 +129,8 @@ HasUnwired world sink form = HasWritten world sink (unwire_files form)
     (λ topology messages lines. HasSwitch form topology (HasRules messages lines))
 
 -- What a reader asks of each command. To compile: with Done the sink took exactly the text of a
--- result that keeps its promise. To refute: with
+-- result that keeps its promise, with Infeasible no assignment is feasible, and with Budget the text
+-- says what was found and a bound. To refute: with
 -- Done the program has no solution, and with CheckNo the first node that fails was named. To divide:
 -- with Done the division is the best. To judge: with Done it is, and with CheckNo the first tenant at
 -- fault was named. To refine: with Done the child refines the parent, and with RefineNo the first rule
@@ -117,6 +141,10 @@ pub record KeepsPromises (world : World) (sink : Taking) (words : List (List ℕ
     : Type 0 where
   pub compiled : (form : CompileForm) → IsCompileForm words form → ended ≡ status.Done
       → HasCompiled world sink form
+  pub infeasible : (form : CompileForm) → IsCompileForm words form → ended ≡ status.Infeasible
+      → HasNoAssignment world sink form
+  pub spent : (form : CompileForm) → IsCompileForm words form → ended ≡ status.Budget
+      → HasSpentBudget world sink form
   pub refined : (form : RefineForm) → IsRefineForm words form → ended ≡ status.Done
       → HasRefined world sink form
   pub wider : (form : RefineForm) → IsRefineForm words form → ended ≡ status.RefineNo

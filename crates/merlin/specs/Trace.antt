@@ -17,7 +17,7 @@ use Rattle.packet_model.specs.Texts.{packet_text, IsPacketText, IsFirstWrong}
 use Rattle.packet_trace.specs.declared.trace.TheConstants.{MAX_HOPS}
 use Rattle.packet_trace.specs.Trace.{MakesHopsBy}
 use Rattle.topology_rules.specs.declared.fault.NetFault.{NetFault}
-use Rattle.merlin.specs.Refusals.{location_name}
+use Rattle.refusal_text.specs.Refusals.{location_name}
 use Rattle.merlin.specs.Inputs.{IsWrongTopology, HasWrongResult, AreNetworkAndResult, BearsName, wrong_topology_lines, wrong_result_lines}
 use Rattle.merlin.specs.declared.reading.TheConstants.{TEXT_LIMIT, RESULT_LIMIT}
 use Rattle.merlin.specs.declared.trace.Tracing.{Tracing}

@@ -2,7 +2,7 @@
 ghost use Rattle.std.specs.Prelude.{◌≡◌, length, IfOk, IfErr, IfSome, IfNone};
 ghost use Rattle.merlin.specs.Words.{word_texts};
 ghost use Rattle.merlin.specs.Reading.{AreContents, IsUnread, texts_read};
-ghost use Rattle.merlin.specs.Commands.{form_of, files_of, IsForm};
+ghost use Rattle.merlin.specs.Commands.{form_of, files_of, IsForm, IsLawfulForm};
 ghost use Rattle.packet_trace.specs.Behaviours.{behaviour_by};
 ghost use Rattle.merlin.specs.Outcome.{IsNoForm};
 ghost use Rattle.merlin.specs.Parts.{IsReplyReport};
@@ -100,6 +100,7 @@ pub fn report_over<A: Fn(&FnDecl, Packet) -> Packet + Drop>(
     apply: A,
 ) -> Result<Report, OutOfMemory>
     requires callable { A.IsAlwaysCallable apply }
+    requires lawful { IsLawfulForm (form_of command) }
     requires read { length contents.now ≡ length (files_of (form_of command)) }
     ensures { let behaviour = behaviour_by (A.post apply) (λ d. d.now) in
         IfOk result (IsReplyReport behaviour (form_of command.entry) (texts_read contents.now)) }

@@ -1,25 +1,23 @@
 //! The command `compile`.
-ghost use Rattle.std.specs.Prelude.{◌≡◌, ◌≢◌, ◌++◌, ℕ, length, OnOk, IfOk, IfSome, IfNone, codes};
-ghost use Rattle.std.specs.String.{string_bytes};
-ghost use Rattle.config_text.specs.Words.{line};
-ghost use Rattle.config_text.specs.Result.{value_text, objective_word};
+ghost use Rattle.std.specs.Prelude.{◌≡◌, ◌≢◌, ℕ, length, IfOk, IfSome, IfNone};
+ghost use Rattle.config_text.specs.Result.{objective_word};
+ghost use Rattle.merlin_base.specs.declared.status.Status.TheVariants as status;
+ghost use Rattle.merlin_compile.specs.Written.{compiled_lines, IsCompiledFromSome};
 ghost use Rattle.merlin.specs.Words.{word_texts};
 ghost use Rattle.merlin.specs.Reading.{files_wanted, texts_read};
-ghost use Rattle.merlin.specs.Compile.{CompileForm, IsBudget, IsCompileForm, compile_form};
-ghost use Rattle.merlin.specs.Compile.{compile_files, Compiles, compiled_lines, compile_lines};
+ghost use Rattle.merlin.specs.Compile.{CompileForm, IsBudget, IsInBudget, IsCompileForm, compile_form};
+ghost use Rattle.merlin.specs.Compile.{compile_files, Compiles, compile_lines};
 ghost use Rattle.merlin.specs.Compile.{IsCompileReply};
-ghost use Rattle.merlin.specs.Compile.{compile_status, head_lines, leaf_lines};
+ghost use Rattle.merlin.specs.Compile.{compile_status, compiled_status};
 ghost use Rattle.merlin.specs.Parts.{IsPrintable};
-ghost use Rattle.merlin.specs.Reports.{IsReportWith};
+ghost use Rattle.merlin.specs.Reports.{IsReportWith, report_lines};
 
-use crate::compiler::{Compiled, EarlyFault, compile_policy};
 use crate::reading::{TEXT_LIMIT, Wanted};
-use crate::refusals::early_fault_text;
-use crate::report::{Report, named_line, push_line};
-use config_text::print;
-use merlin_base::{Name, OutOfMemory, Status, read_decimal};
+use crate::report::{Report, named_line};
+use merlin_base::{OutOfMemory, Status, read_decimal};
+use merlin_compile::{CompileFault, Compiled, compile, compile_fault_text, compiled_head};
 use merlin_model::limits::MAX_NODES;
-use merlin_model::policy::{Objective, Value};
+use merlin_model::policy::Objective;
 use std::alloc::Global;
 
 /// The most nodes of a tree, where the words do not say.
@@ -40,8 +38,8 @@ pub struct Compile<'a> {
 /// What is replied to it.
 #[derive(Drop)]
 pub enum CompileReply {
-    Refused(EarlyFault),
-    Least(Compiled),
+    Refused(CompileFault),
+    Compiled(Compiled),
 }
 
 fn objective_of(word: &str) -> Option<Objective>
@@ -119,11 +117,13 @@ fn compile_reply(
     policy: &[u8],
     topology: &[u8],
 ) -> Result<CompileReply, OutOfMemory>
+    requires { IsInBudget command.budget }
     ensures reply { IfOk result (Compiles (compile_form command.entry) policy.now topology.now) }
     ensures printable { IfOk result IsPrintable }
 {
-    match compile_policy(alloc, policy, topology, command.objective) {
-        Ok(compiled) => Ok(CompileReply::Least(compiled)),
+    let budget = command.budget as usize;
+    match compile(alloc, policy, topology, command.objective, budget) {
+        Ok(compiled) => Ok(CompileReply::Compiled(compiled)),
         Err(fault) => {
             if fault.is_want_of_memory() {
                 return Err(OutOfMemory);
@@ -133,99 +133,55 @@ fn compile_reply(
     }
 }
 
-fn objective_name(objective: Objective) -> &'static str
-    ensures { result.now ≡ objective_word objective }
+// What is reported of a refusal.
+fn refused_report(alloc: Global, fault: &CompileFault) -> Result<Report, OutOfMemory>
+    ensures lines { IfOk result (λ report.
+        report_lines report ≡ compile_lines (CompileReply.Refused fault.now)) }
+    ensures status { IfOk result (λ report. report.status ≡ status.Refused) }
 {
-    match objective {
-        Objective::Shortest => "shortest",
-        Objective::Ratio => "ratio",
-        Objective::Reserved => "reserved",
-    }
-}
-
-fn objective_text(alloc: Global, objective: Objective, value: Value) -> Result<String, OutOfMemory>
-    ensures { IfOk result (λ text. string_bytes text ≡
-        codes "objective " ++ (objective_word objective ++ (codes " " ++ value_text value))) }
-{
-    let objective = objective_name(objective);
-    match value {
-        Value::Whole(number) => Ok(format!(in alloc; "objective {objective} {number}")?),
-        Value::Ratio { load, capacity } => {
-            Ok(format!(in alloc; "objective {objective} {load}/{capacity}")?)
-        }
-    }
-}
-
-// The first lines of a result.
-fn result_head(alloc: Global, objective: Objective, value: Value) -> Result<Vec<Name>, OutOfMemory>
-    ensures { IfOk result (λ lines. lines.items ≡ head_lines objective value) }
-{
-    let text = objective_text(alloc, objective, value)?;
-    let mut lines = Vec::new(alloc);
-    push_line(alloc, &mut lines, "merlin 2 ok")?;
-    push_line(alloc, &mut lines, &text)?;
-    Ok(lines)
-}
-
-// Adds the certificate of one leaf on the row after those of the directed links.
-fn push_certificate(alloc: Global, lines: &mut Vec<Name>, rows: usize) -> Result<(), OutOfMemory>
-    ensures { OnOk result (lines.new.items ≡ lines.old.items ++ leaf_lines rows) }
-{
-    let weight = 1u64;
-    let leaf = format!(in alloc; "leaf {rows}:{weight}")?;
-    push_line(alloc, lines, "tree")?;
-    push_line(alloc, lines, &leaf)?;
-    push_line(alloc, lines, "end")
-}
-
-// The lines of a result: the head, the configuration and the certificate.
-fn result_of(alloc: Global, compiled: &Compiled) -> Result<Vec<Name>, OutOfMemory>
-    requires { IsPrintable (CompileReply.Least compiled.now) }
-    ensures { IfOk result (λ lines. lines.items ≡ compiled_lines compiled.now) }
-{
-    let rows = 2 * compiled.net.links().len();
-    let mut lines = result_head(alloc, compiled.objective, compiled.value)?;
-    lines.append(&mut print(alloc, &compiled.config, &compiled.net)?)?;
-    push_certificate(alloc, &mut lines, rows)?;
-    Ok(lines)
-}
-
-fn refused_lines(alloc: Global, fault: &EarlyFault) -> Result<Vec<Name>, OutOfMemory>
-    ensures { IfOk result (λ lines. lines.items ≡ compile_lines (CompileReply.Refused fault.now)) }
-{
-    let text = early_fault_text(alloc, fault)?;
-    named_line(alloc, "refused: ", &text)
-}
-
-fn lines_of(alloc: Global, reply: &CompileReply) -> Result<Vec<Name>, OutOfMemory>
-    requires { IsPrintable reply.now }
-    ensures { IfOk result (λ lines. lines.items ≡ compile_lines reply.now) }
-{
-    match reply {
-        CompileReply::Refused(fault) => refused_lines(alloc, fault),
-        CompileReply::Least(compiled) => result_of(alloc, compiled),
-    }
-}
-
-fn status_of(reply: &CompileReply) -> Status
-    ensures { result ≡ compile_status reply.now }
-{
-    match reply {
-        CompileReply::Refused(_) => Status::Refused,
-        CompileReply::Least(_) => Status::Done,
-    }
-}
-
-fn report_on(alloc: Global, reply: &CompileReply) -> Result<Report, OutOfMemory>
-    requires { IsPrintable reply.now }
-    ensures lines { IfOk result (λ report. report.lines.items ≡ compile_lines reply.now) }
-    ensures status { IfOk result (λ report. report.status ≡ compile_status reply.now) }
-{
-    let lines = lines_of(alloc, reply)?;
+    let text = compile_fault_text(alloc, fault)?;
+    let lines = named_line(alloc, "refused: ", &text)?;
     Ok(Report {
         lines,
-        status: status_of(reply),
+        tree: None,
+        status: Status::Refused,
     })
+}
+
+fn status_of(compiled: &Compiled) -> Status
+    ensures { result ≡ compiled_status compiled.now }
+{
+    match compiled {
+        Compiled::Least(_) => Status::Done,
+        Compiled::Infeasible { .. } => Status::Infeasible,
+        Compiled::Budget(_) => Status::Budget,
+    }
+}
+
+// What is reported of a result: its lines, with the certificate last.
+fn compiled_report(alloc: Global, compiled: Compiled) -> Result<Report, OutOfMemory>
+    requires { IsCompiledFromSome compiled }
+    ensures lines { IfOk result (λ report. report_lines report ≡ compiled_lines compiled) }
+    ensures status { IfOk result (λ report. report.status ≡ compiled_status compiled) }
+{
+    let lines = compiled_head(alloc, &compiled)?;
+    let status = status_of(&compiled);
+    Ok(Report {
+        lines,
+        tree: Some(compiled.into_tree()),
+        status,
+    })
+}
+
+fn report_on(alloc: Global, reply: CompileReply) -> Result<Report, OutOfMemory>
+    requires { IsPrintable reply }
+    ensures lines { IfOk result (λ report. report_lines report ≡ compile_lines reply) }
+    ensures status { IfOk result (λ report. report.status ≡ compile_status reply) }
+{
+    match reply {
+        CompileReply::Refused(fault) => refused_report(alloc, &fault),
+        CompileReply::Compiled(compiled) => compiled_report(alloc, compiled),
+    }
 }
 
 /// What is reported of the contents of its files.
@@ -234,13 +190,14 @@ pub fn compile_report(
     command: Compile,
     contents: &[Vec<u8>],
 ) -> Result<Report, OutOfMemory>
-    requires { length contents.now ≡ 2 }
+    requires budget { IsInBudget command.budget }
+    requires two { length contents.now ≡ 2 }
     ensures { let is_reply = IsCompileReply (compile_form command.entry)
         (texts_read contents.now) in
         IfOk result (IsReportWith is_reply compile_lines compile_status) }
 {
     match compile_reply(alloc, command, &contents[0], &contents[1]) {
-        Ok(reply) => report_on(alloc, &reply),
+        Ok(reply) => report_on(alloc, reply),
         Err(OutOfMemory) => Err(OutOfMemory),
     }
 }

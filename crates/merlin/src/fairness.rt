@@ -3,7 +3,7 @@ ghost use Rattle.std.specs.Prelude.{◌≡◌, ℕ, List, length, IfOk, IfSome, 
 ghost use Rattle.fair_share.specs.Reading.{IsDemandsText};
 ghost use Rattle.merlin.specs.Words.{word_texts};
 ghost use Rattle.merlin.specs.Reading.{files_wanted, texts_read};
-ghost use Rattle.merlin.specs.Reports.{IsReportWith};
+ghost use Rattle.merlin.specs.Reports.{IsReportWith, report_lines};
 ghost use Rattle.merlin.specs.Fairness.{FairnessForm, IsFairnessForm, fairness_form};
 ghost use Rattle.merlin.specs.Fairness.{fairness_files, AreReadAs, Judges};
 ghost use Rattle.merlin.specs.Fairness.{IsFairnessReply, fairness_lines, fairness_status};
@@ -135,12 +135,13 @@ fn status_of(reply: &FairnessReply) -> Status
 }
 
 fn report_on(alloc: Global, reply: &FairnessReply) -> Result<Report, OutOfMemory>
-    ensures lines { IfOk result (λ report. report.lines.items ≡ fairness_lines reply.now) }
+    ensures lines { IfOk result (λ report. report_lines report ≡ fairness_lines reply.now) }
     ensures status { IfOk result (λ report. report.status ≡ fairness_status reply.now) }
 {
     let lines = lines_of(alloc, reply)?;
     Ok(Report {
         lines,
+        tree: None,
         status: status_of(reply),
     })
 }

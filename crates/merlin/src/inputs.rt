@@ -1,10 +1,10 @@
 //! What several commands read: a topology, and a result over it.
 ghost use Rattle.std.specs.Prelude.{◌≡◌, ℕ, IfOk, IfSome, IfNone};
-ghost use Rattle.merlin.specs.Refusals.{location_name as location_name_of};
+ghost use Rattle.refusal_text.specs.Refusals.{location_name as location_name_of};
 ghost use Rattle.merlin.specs.Inputs.{wrong_topology_lines as lines_of_topology, wrong_result_lines as lines_of_result};
 ghost use Rattle.merlin.specs.Wire.{IsSwitchNamed, unknown_switch_lines as lines_of_switch};
 
-use crate::refusals::net_fault_text;
+use refusal_text::net_fault_text;
 use crate::report::{named_line, numbered_line};
 use merlin_base::{Name, OutOfMemory};
 use std::alloc::Global;

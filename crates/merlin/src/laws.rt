@@ -1,7 +1,7 @@
 //! Which replies the contents of files have. Each law is the contract of a function that does
 //! nothing.
 
-ghost use Rattle.std.specs.Prelude.{◌≡◌, ◌<◌, ◌^◌, ◌∷◌, [], ℕ, List, length};
+ghost use Rattle.std.specs.Prelude.{◌≡◌, ◌≤◌, ◌<◌, ◌+◌, ◌^◌, ◌⊎◌, ◌∷◌, [], ℕ, List, None, length};
 ghost use Rattle.merlin_base.specs.declared.status.Status.TheVariants as status;
 ghost use Rattle.merlin_model.specs.Networks.{Network};
 ghost use Rattle.merlin_model.specs.Programs.{Program};
@@ -11,7 +11,13 @@ ghost use Rattle.merlin.specs.declared.compile.CompileReply.{CompileReply};
 ghost use Rattle.merlin.specs.declared.refute.RefuteReply.{RefuteReply};
 ghost use Rattle.merlin.specs.declared.refute.RefuteReply.TheVariants as refute;
 ghost use Rattle.merlin.specs.Compile.{CompileForm, IsCompileReply, compile_status};
-ghost use Rattle.merlin.specs.Compiler.{AreCompilable};
+ghost use Rattle.merlin_model.specs.declared.policy.Ends.{Ends};
+ghost use Rattle.merlin_model.specs.Programs.{variables};
+ghost use Rattle.cutoff_program.specs.Flows.{program_at};
+ghost use Rattle.cutoff_program.specs.declared.flow.Problem.{Problem};
+ghost use Rattle.policy_check.specs.Checked.{CheckedPolicy};
+ghost use Rattle.merlin_compile.specs.Input.{IsInput};
+ghost use Rattle.merlin_compile.specs.Completeness.{GuaranteesNothing, HasFeasibleWalks, IsProblemFor, NeverCouples};
 ghost use Rattle.merlin_model.specs.Policies.{Policy};
 ghost use Rattle.refinement_model.specs.Refinement.{Refines};
 ghost use Rattle.negotiator.specs.CellCounts.{HasFewCellsTogether};
@@ -50,22 +56,44 @@ ghost use Rattle.merlin.specs.Trace.{TraceForm, IsTracedFrom, IsTraceReply, run_
 use openflow_wire::message_is_read_back;
 use topology_rules::laws::one_network;
 
-/// A policy that compiles over its network is done. In any case two replies to the same files have one
-/// status.
+/// Texts that stand for an input, which nothing refuses: without guarantees it is done; with a feasible assignment it is done, or the budget is spent; without one
+/// it is infeasible, or the budget is spent. A budget of all nodes that a tree over the program's variables may have is never spent, nor is any where
+/// shortest paths do not hinder one another. In any case two replies to the same files are both refusals or neither is.
 pub fn compile_replies()
     ensures done { (form : CompileForm) (policy topology : List ℕ) (net : Network)
-        (reply : CompileReply) → AreCompilable policy topology net →
+        (checked : CheckedPolicy) (ends : List Ends) (reply : CompileReply) → 0 < form.budget →
+        IsInput policy topology net checked ends → GuaranteesNothing checked.policy →
         IsCompileReply form (policy ∷ topology ∷ []) reply → compile_status reply ≡ status.Done }
+    ensures feasible { (form : CompileForm) (policy topology : List ℕ) (net : Network)
+        (checked : CheckedPolicy) (ends : List Ends) (reply : CompileReply) →
+        IsInput policy topology net checked ends → HasFeasibleWalks net checked.policy ends →
+        IsCompileReply form (policy ∷ topology ∷ []) reply →
+        (compile_status reply ≡ status.Done) ⊎ (compile_status reply ≡ status.Budget) }
+    ensures infeasible { (form : CompileForm) (policy topology : List ℕ) (net : Network)
+        (checked : CheckedPolicy) (ends : List Ends) (reply : CompileReply) →
+        IsInput policy topology net checked ends → ¬ HasFeasibleWalks net checked.policy ends →
+        IsCompileReply form (policy ∷ topology ∷ []) reply →
+        (compile_status reply ≡ status.Infeasible) ⊎ (compile_status reply ≡ status.Budget) }
+    ensures enough { (form : CompileForm) (policy topology : List ℕ) (net : Network)
+        (checked : CheckedPolicy) (ends : List Ends) (problem : Problem) (reply : CompileReply) →
+        IsInput policy topology net checked ends →
+        IsProblemFor net checked ends form.objective problem →
+        2 ^ (variables (program_at problem None) + 1) ≤ form.budget + 1 →
+        IsCompileReply form (policy ∷ topology ∷ []) reply →
+        ¬ (compile_status reply ≡ status.Budget) }
+    ensures uncoupled { (form : CompileForm) (policy topology : List ℕ) (net : Network)
+        (checked : CheckedPolicy) (ends : List Ends) (problem : Problem) (reply : CompileReply) →
+        IsInput policy topology net checked ends →
+        IsProblemFor net checked ends form.objective problem →
+        NeverCouples net checked.policy ends form.objective problem →
+        IsCompileReply form (policy ∷ topology ∷ []) reply →
+        ¬ (compile_status reply ≡ status.Budget) }
     ensures one { (form : CompileForm) (contents : List (List ℕ)) (reply other : CompileReply) →
         IsCompileReply form contents reply → IsCompileReply form contents other →
-        compile_status other ≡ compile_status reply }
+        compile_status reply ≡ status.Refused → compile_status other ≡ status.Refused }
 {
-    one_network();
-    merlin_compile::one_limit::limits_of_one_policy();
-    merlin_compile::laws::limits_are_kept_or_passed();
-    merlin_compile::laws::kept_rules_are_not_broken();
-    merlin_compile::laws::ends_that_stand_are_not_refused();
-    merlin_compile::laws::made_without_guarantees();
+    merlin_compile::laws::inputs_are_not_refused();
+    merlin_compile::laws::inputs_have_results();
 }
 
 /// Of policies that keep all rules over the network, a child that refines its parent has the reply

@@ -3,8 +3,6 @@
 
 mod commands;
 mod compile;
-mod compiler;
-mod configuring;
 mod fair;
 mod fairness;
 mod inputs;
@@ -12,7 +10,6 @@ pub mod laws;
 mod program;
 mod reading;
 mod refine;
-mod refusals;
 mod refute;
 mod report;
 mod trace;
@@ -22,7 +19,6 @@ mod wider;
 mod wire;
 
 pub use compile::{DEFAULT_BUDGET, MAX_BUDGET};
-pub use compiler::{Compiled, EarlyFault, compile_policy};
 pub use packet_trace::{End, Trace, Tracer, Visit};
 pub use program::run;
 pub use reading::{RESULT_LIMIT, TEXT_LIMIT};

@@ -7,15 +7,15 @@ ghost use Rattle.policy_check.specs.Checked.{HasAutomata, IsCheckOf};
 ghost use Rattle.topology.specs.Symbols.{network_symbols};
 ghost use Rattle.merlin.specs.Words.{word_texts};
 ghost use Rattle.merlin.specs.Reading.{files_wanted, texts_read};
-ghost use Rattle.merlin.specs.Refusals.{policy_fault_text as text_of_policy_fault, check_fault_text as text_of_check_fault};
+ghost use Rattle.refusal_text.specs.Refusals.{policy_fault_text as text_of_policy_fault, check_fault_text as text_of_check_fault};
 ghost use Rattle.merlin.specs.Refine.{RefineForm, IsRefineForm, refine_form, refine_files};
 ghost use Rattle.merlin.specs.Refine.{ArePolicyTexts, AreComparable, Negotiates};
 ghost use Rattle.merlin.specs.Refine.{NamesSymbols, IsFaultReply};
 ghost use Rattle.merlin.specs.Refine.{IsRefineReply, refine_lines, refine_status};
-ghost use Rattle.merlin.specs.Reports.{IsReportWith};
+ghost use Rattle.merlin.specs.Reports.{IsReportWith, report_lines};
 
 use crate::reading::{TEXT_LIMIT, Wanted};
-use crate::refusals::{check_fault_text, net_fault_text, policy_fault_text};
+use refusal_text::{check_fault_text, net_fault_text, policy_fault_text};
 use crate::report::{Report, named_line, one_line};
 use crate::wider::{cap_text, path_text, reserve_text};
 use merlin_base::{Name, OutOfMemory, Status};
@@ -277,12 +277,13 @@ fn status_of(reply: &RefineReply) -> Status
 }
 
 fn report_on(alloc: Global, reply: &RefineReply) -> Result<Report, OutOfMemory>
-    ensures lines { IfOk result (λ report. report.lines.items ≡ refine_lines reply.now) }
+    ensures lines { IfOk result (λ report. report_lines report ≡ refine_lines reply.now) }
     ensures status { IfOk result (λ report. report.status ≡ refine_status reply.now) }
 {
     let lines = lines_of(alloc, reply)?;
     Ok(Report {
         lines,
+        tree: None,
         status: status_of(reply),
     })
 }

@@ -7,7 +7,7 @@ ghost use Rattle.packet_trace.specs.Trace.{IsTrace, record_of};
 ghost use Rattle.topology_rules.specs.Faults.{IsTopology};
 ghost use Rattle.merlin.specs.Words.{word_texts};
 ghost use Rattle.merlin.specs.Reading.{files_wanted, texts_read};
-ghost use Rattle.merlin.specs.Reports.{IsReportWith};
+ghost use Rattle.merlin.specs.Reports.{IsReportWith, report_lines};
 ghost use Rattle.merlin.specs.Inputs.{AreNetworkAndResult};
 ghost use Rattle.merlin.specs.Trace.{TraceForm, IsTraceForm, trace_form, trace_files, IsHostNamed};
 ghost use Rattle.merlin.specs.Trace.{visit_line, Traces, IsTraceReply};
@@ -293,12 +293,16 @@ fn status_of(reply: &TraceReply) -> Status
 
 // What is reported of a reply.
 fn report_on(alloc: Global, reply: TraceReply) -> Result<Report, OutOfMemory>
-    ensures lines { IfOk result (λ report. report.lines.items ≡ lines_of_reply reply) }
+    ensures lines { IfOk result (λ report. report_lines report ≡ lines_of_reply reply) }
     ensures status { IfOk result (λ report. report.status ≡ trace_status reply) }
 {
     let status = status_of(&reply);
     let lines = lines_of(alloc, reply)?;
-    Ok(Report { lines, status })
+    Ok(Report {
+        lines,
+        tree: None,
+        status,
+    })
 }
 
 /// What is reported of the contents of its files. Packet functions do what `apply` does.

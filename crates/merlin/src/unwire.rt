@@ -7,7 +7,7 @@ ghost use Rattle.merlin_model.specs.declared.config.Rule.{Rule as Stated};
 ghost use Rattle.topology_rules.specs.Faults.{IsTopology};
 ghost use Rattle.merlin.specs.Words.{word_texts};
 ghost use Rattle.merlin.specs.Reading.{files_wanted, texts_read};
-ghost use Rattle.merlin.specs.Reports.{IsReportWith};
+ghost use Rattle.merlin.specs.Reports.{IsReportWith, report_lines};
 ghost use Rattle.merlin.specs.Unwire.{UnwireForm, IsUnwireForm, unwire_form, unwire_files};
 ghost use Rattle.merlin.specs.Unwire.{IsLineOfRule, BeginsWithMessages, no_digits_text, bad_message_text};
 ghost use Rattle.merlin.specs.Unwire.{Unwires, IsUnwireReply, unwire_lines as lines_of_reply, unwire_status};
@@ -275,12 +275,16 @@ fn status_of(reply: &UnwireReply) -> Status
 
 // What is reported of a reply.
 fn report_on(alloc: Global, reply: UnwireReply) -> Result<Report, OutOfMemory>
-    ensures lines { IfOk result (λ report. report.lines.items ≡ lines_of_reply reply) }
+    ensures lines { IfOk result (λ report. report_lines report ≡ lines_of_reply reply) }
     ensures status { IfOk result (λ report. report.status ≡ unwire_status reply) }
 {
     let status = status_of(&reply);
     let lines = lines_of(alloc, reply)?;
-    Ok(Report { lines, status })
+    Ok(Report {
+        lines,
+        tree: None,
+        status,
+    })
 }
 
 /// What is reported of the contents of its files.

@@ -6,7 +6,7 @@ ghost use Rattle.openflow_wire.specs.Rules.{IsRule};
 ghost use Rattle.topology_rules.specs.Faults.{IsTopology};
 ghost use Rattle.merlin.specs.Words.{word_texts};
 ghost use Rattle.merlin.specs.Reading.{files_wanted, texts_read};
-ghost use Rattle.merlin.specs.Reports.{IsReportWith};
+ghost use Rattle.merlin.specs.Reports.{IsReportWith, report_lines};
 ghost use Rattle.merlin.specs.Inputs.{AreNetworkAndResult};
 ghost use Rattle.merlin.specs.Wire.{WireForm, IsWireForm, wire_form, wire_files};
 ghost use Rattle.merlin.specs.Wire.{rules_at, message_line, message_lines, Wires, IsWireReply};
@@ -193,12 +193,16 @@ fn status_of(reply: &WireReply) -> Status
 
 // What is reported of a reply.
 fn report_on(alloc: Global, reply: WireReply) -> Result<Report, OutOfMemory>
-    ensures lines { IfOk result (λ report. report.lines.items ≡ lines_of_reply reply) }
+    ensures lines { IfOk result (λ report. report_lines report ≡ lines_of_reply reply) }
     ensures status { IfOk result (λ report. report.status ≡ wire_status reply) }
 {
     let status = status_of(&reply);
     let lines = lines_of(alloc, reply)?;
-    Ok(Report { lines, status })
+    Ok(Report {
+        lines,
+        tree: None,
+        status,
+    })
 }
 
 /// What is reported of the contents of its files.

@@ -9,11 +9,13 @@ use Rattle.merlin_model.specs.declared.policy.Symbol.{Symbol}
 use Rattle.merlin_model.specs.declared.policy.Value.{Value}
 use Rattle.merlin_model.specs.Networks.{Network}
 use Rattle.merlin_model.specs.Policies.{Policy as NumberedPolicy}
-use Rattle.merlin_model.specs.Assignments.{IsAssignment, IsFeasible, IsLeast, value_of}
+use Rattle.merlin_model.specs.Assignments.{IsAssignment, IsFeasible, IsLeast, load_on, value_of}
 use Rattle.merlin_model.specs.Headline.{DeliversPackets, MeetsGuarantees, KeepsCaps, HasOneLinePerClass}
 use Rattle.merlin_model.specs.Results.{IsAcceptedPolicy}
 use Rattle.rate_formula.specs.Usage.{ids_in}
 use Rattle.config_text.specs.Lines.{IsConfigOver}
+use Rattle.config_text.specs.Loads.{loads_of}
+use Rattle.result_heads.specs.Queued.{queued_on}
 use Rattle.policy_check.specs.Checked.{CheckedPolicy}
 use Rattle.openflow_rules.specs.Planning.{statement_automata}
 use Rattle.configuration_model.specs.Compiled.{IsMade}
@@ -57,6 +59,8 @@ pub record IsSolvedFrom (policy topology : List ℕ) (objective : Objective) (bu
   pub asked : solved.objective ≡ objective
   pub ids : AreIdsOf checked.policy ends solved.ids
   pub provisioned : IsProvisioned solved.net checked ends solved.walks solved.config
+  -- what the queues put on the directed links is what the walks put there
+  pub loads : loads_of solved.net (queued_on solved.config.queues) ≡ loads_of solved.net (load_on solved.net checked.policy ends solved.walks)
   -- no feasible assignment of allowed walks has a smaller value
   pub least : IsLeast solved.net checked.policy ends objective solved.walks
   pub value_is : solved.value ≡ value_of solved.net checked.policy ends objective solved.walks

@@ -22,6 +22,7 @@ fn compiled_with(net: Topology, objective: Objective, provision: Provision) -> C
         AreInputs policy topology raw net → IsProvisionFor net raw objective budget provision →
         IsCompiledFrom policy topology objective budget result }
 {
+    result_heads::laws::loads_of_queues_are_those_of_walks();
     match provision {
         Provision::Least {
             ids,

@@ -7,7 +7,9 @@ mod identifying;
 pub mod laws;
 mod outcome;
 mod provisioning;
+mod writing;
 
 pub use compiler::compile;
 pub use fault::{CompileFault, compile_fault_text};
 pub use outcome::{Compiled, Partial, Solved};
+pub use writing::compiled_head;

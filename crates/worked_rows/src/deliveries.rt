@@ -7,12 +7,15 @@ use crate::lines::Lines;
 use crate::packets::packet_from;
 use crate::store::{Store, content};
 use crate::texts::{parted, text_of};
-use merlin::{Compiled, compile_policy};
+use merlin_compile::{Compiled, Solved, compile};
 use merlin_model::policy::Objective;
 use packet_model::{Packet, print_packet};
 use packet_trace::{End, Trace, Tracer, declared};
 use std::alloc::Global;
 use topology::{FnDecl, Topology};
+
+// The nodes that a search may make.
+const BUDGET: usize = 512;
 
 fn is_host(net: &Topology, loc: usize) -> bool
     ensures { IsTrue result → IsHost net.now loc }
@@ -59,18 +62,18 @@ fn describe(alloc: Global, out: &mut Lines, net: &Topology, trace: &Trace) {
     add_end(alloc, out, net, trace.end);
 }
 
-fn follow(alloc: Global, compiled: &Compiled, host: usize, packet: Packet, out: &mut Lines) {
-    if !is_host(&compiled.net, host) {
+fn follow(alloc: Global, solved: &Solved, host: usize, packet: Packet, out: &mut Lines) {
+    if !is_host(&solved.net, host) {
         out.answer(1, "no host");
         return;
     }
     let tracer = Tracer::new(
-        &compiled.net,
-        &compiled.config,
+        &solved.net,
+        &solved.config,
         |decl: &FnDecl, packet: Packet| declared(decl, packet),
     );
     match tracer.trace(alloc, host, packet) {
-        Ok(trace) => describe(alloc, out, &compiled.net, &trace),
+        Ok(trace) => describe(alloc, out, &solved.net, &trace),
         Err(_) => out.cut(),
     }
     let Tracer {
@@ -80,10 +83,10 @@ fn follow(alloc: Global, compiled: &Compiled, host: usize, packet: Packet, out: 
     } = tracer;
 }
 
-fn follow_from(alloc: Global, compiled: &Compiled, words: &str, out: &mut Lines) {
+fn follow_from(alloc: Global, solved: &Solved, words: &str, out: &mut Lines) {
     let (host, packet) = parted(words);
-    match (compiled.net.find(host.as_bytes()), packet_from(packet)) {
-        (Some(loc), Some(packet)) => follow(alloc, compiled, loc, packet, out),
+    match (solved.net.find(host.as_bytes()), packet_from(packet)) {
+        (Some(loc), Some(packet)) => follow(alloc, solved, loc, packet, out),
         _ => out.answer(1, "no host and packet"),
     }
 }
@@ -93,8 +96,8 @@ pub fn answer_to(alloc: Global, words: &str, store: &Store, out: &mut Lines) {
     let (policy, words) = parted(words);
     let (topology, words) = parted(words);
     let (policy, topology) = (content(store, policy), content(store, topology));
-    match compile_policy(alloc, policy, topology, Objective::Shortest) {
-        Ok(compiled) => follow_from(alloc, &compiled, words, out),
-        Err(_) => out.answer(1, "not compiled"),
+    match compile(alloc, policy, topology, Objective::Shortest, BUDGET) {
+        Ok(Compiled::Least(solved)) => follow_from(alloc, &solved, words, out),
+        _ => out.answer(1, "not compiled"),
     }
 }

@@ -1,14 +1,21 @@
-use Rattle.std.proofs.Common.{◌≡◌, ℕ, length, ◌∙◌, ap}
+use Rattle.std.proofs.Common.{◌≡◌, ℕ, length, ◌∙◌, ap, subst}
 use Rattle.merlin.specs.declared.commands.Command.{Command}
-use Rattle.merlin.specs.Commands.{form_of, files_of}
+use Rattle.merlin.specs.Commands.{form_of, files_of, IsLawfulForm}
 use Rattle.merlin.proofs.commands.report_over.Goals as goal
 
 -- a command has as many files as were read
 many : {count : ℕ} {command known : Command} → count ≡ length (files_of (form_of command)) → command ≡ known → count ≡ length (files_of (form_of known))
 many read is = read ∙ ap (λ (x : Command). length (files_of (form_of x))) is
 
-pub compile_report-requires : goal.compile_report-requires
-compile_report-requires g c = many c.requires.read c.in-Compile.is
+pub compile_report-requires-clause-two : goal.compile_report-requires-clause-two
+compile_report-requires-clause-two g c = many c.requires.read c.in-Compile.is
+
+-- a command keeps its budget
+budget : {command known : Command} → IsLawfulForm (form_of command) → command ≡ known → IsLawfulForm (form_of known)
+budget lawful is = subst (λ (x : Command). IsLawfulForm (form_of x)) is lawful
+
+pub compile_report-requires-clause-budget : goal.compile_report-requires-clause-budget
+compile_report-requires-clause-budget g c = budget c.requires.lawful c.in-Compile.is
 
 pub returns-in-Compile : goal.returns-in-Compile
 returns-in-Compile g c = rw c.in-Compile.is c.compile_report.ensures

@@ -31,10 +31,12 @@ pub enum Asked {
     Bound,
     /// `point|..|CUTOFF|WALK|..`: the variables that walks set to 1, what they reach, whether they are a solution at the cutoff, and the walks of this point
     Point,
-    /// `search|..|BUDGET`: what a search with so many nodes finds, the loads of the walks, and how many nodes the tree has
+    /// `search|..|BUDGET`: what a search with so many nodes finds, and how many nodes its tree has
     Search,
-    /// `walks|..|BUDGET`: the same with the walks in place of their loads
+    /// `walks|..|BUDGET`: the same with the walks in place of the number
     Walks,
+    /// `loads|..|BUDGET`: the same with what the walks put on each link
+    Loads,
     /// `certificate|..|BUDGET`: the tree alone
     Certificate,
 }
@@ -50,6 +52,7 @@ pub fn asked_of(command: &str) -> Option<Asked> {
         "point" => Some(Asked::Point),
         "search" => Some(Asked::Search),
         "walks" => Some(Asked::Walks),
+        "loads" => Some(Asked::Loads),
         "certificate" => Some(Asked::Certificate),
         _ => None,
     }
@@ -92,7 +95,7 @@ fn of_ends(
     requires few { length ends.now ≤ MAX_GUARANTEES }
 {
     match asked {
-        Asked::Search | Asked::Walks | Asked::Certificate => {
+        Asked::Search | Asked::Walks | Asked::Loads | Asked::Certificate => {
             searches::answer_to(alloc, net, checked, ends, asked, words, out)
         }
         _ => parts::answer_to(alloc, net, checked, ends, asked, words, out),

@@ -33,23 +33,39 @@ fn nodes_of(tree: &Tree) -> u64 {
     }
 }
 
-// The lines of walks, or of what they put on each link.
-fn add_best(
+fn add_walks(out: &mut Lines, net: &Topology, walks: &[Items<Symbol>]) {
+    for walk in walks {
+        add_walk(out, net, walk.as_slice());
+    }
+}
+
+fn add_nodes(out: &mut Lines, tree: &Tree) {
+    out.add("nodes");
+    out.add_numbers(&[nodes_of(tree)]);
+    out.add("\n");
+}
+
+// The lines of walks, or of what they put on each link, or how many nodes the tree has.
+fn add_rest(
     out: &mut Lines,
     net: &Topology,
     rates: &[u64],
     ends: &[Ends],
     walks: &[Items<Symbol>],
+    tree: &Tree,
     asked: Asked,
 ) {
     match asked {
-        Asked::Walks => {
-            for walk in walks {
-                add_walk(out, net, walk.as_slice());
-            }
-        }
-        _ => add_loads(out, net, rates, ends, walks),
+        Asked::Walks => add_walks(out, net, walks),
+        Asked::Loads => add_loads(out, net, rates, ends, walks),
+        _ => add_nodes(out, tree),
     }
+}
+
+fn add_least(out: &mut Lines, value: Value) {
+    out.add("least ");
+    add_value(out, value);
+    out.add("\n");
 }
 
 // The line of what there is at best, and a value that nothing is below.
@@ -64,10 +80,11 @@ fn add_spent(out: &mut Lines, best: Option<Value>, bound: Value) {
     out.add("\n");
 }
 
-fn add_nodes(out: &mut Lines, tree: &Tree) {
-    out.add("nodes");
-    out.add_numbers(&[nodes_of(tree)]);
-    out.add("\n");
+fn walks_of(best: &Option<(Value, Items<Items<Symbol>>)>) -> &[Items<Symbol>] {
+    match best {
+        Some((_, walks)) => walks.as_slice(),
+        None => &[],
+    }
 }
 
 // Status 0, and what was found.
@@ -82,22 +99,16 @@ fn describe(
     out.add("0\n");
     match found {
         WalksFound::Least { value, walks, tree } => {
-            out.add("least ");
-            add_value(out, *value);
-            out.add("\n");
-            add_best(out, net, rates, ends, walks.as_slice(), asked);
-            add_nodes(out, tree);
+            add_least(out, *value);
+            add_rest(out, net, rates, ends, walks.as_slice(), tree, asked);
         }
         WalksFound::Infeasible { tree } => {
             out.add("infeasible\n");
-            add_nodes(out, tree);
+            add_rest(out, net, rates, ends, &[], tree, asked);
         }
         WalksFound::Budget { best, bound, tree } => {
             add_spent(out, best.as_ref().map(|best| best.0), *bound);
-            if let Some((_, walks)) = best {
-                add_best(out, net, rates, ends, walks.as_slice(), asked);
-            }
-            add_nodes(out, tree);
+            add_rest(out, net, rates, ends, walks_of(best), tree, asked);
         }
     }
 }

@@ -5,7 +5,8 @@ use crate::policies::Asked;
 use crate::store::{Store, content, memory};
 use crate::texts::parted;
 use crate::{
-    comparisons, deliveries, networks, outside, packets, policies, results, tokens, trees,
+    comparisons, deliveries, guaranteed, networks, outside, packets, policies, results, tokens,
+    trees,
 };
 use merlin::run;
 use merlin_base::{MemoryFiles, MemorySink, OutOfMemory};
@@ -127,6 +128,9 @@ pub fn answer_to(
         "result" => results::answer_to(alloc, rest, store, results::Asked::Whole, out),
         "line" => results::answer_to(alloc, rest, store, results::Asked::Line, out),
         "tree" => trees::answer_to(alloc, rest, store, out),
-        _ => run_program(alloc, line, store, failing_reads, failing_writes, out),
+        _ => match guaranteed::asked_of(command) {
+            Some(asked) => guaranteed::answer_to(alloc, rest, store, asked, out),
+            None => run_program(alloc, line, store, failing_reads, failing_writes, out),
+        },
     }
 }

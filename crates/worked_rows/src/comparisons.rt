@@ -37,8 +37,8 @@ fn checked_from(alloc: Global, text: &[u8], net: &Topology) -> Option<Checked>
     }
 }
 
-// A symbol: its location, and behind a colon its function.
-fn add_symbol(out: &mut Lines, net: &Topology, symbol: &Symbol) {
+/// A symbol behind a blank: the name of its location, and behind a colon that of its function.
+pub fn add_symbol(out: &mut Lines, net: &Topology, symbol: &Symbol) {
     out.add(" ");
     if symbol.loc < net.locations() {
         out.add_bytes(net.name(symbol.loc).bytes());

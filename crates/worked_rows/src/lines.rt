@@ -61,6 +61,13 @@ impl Lines {
         }
     }
 
+    /// Adds a number that may be below 0.
+    pub fn add_signed(&mut self, number: i64) {
+        if write!(self.text, "{number}").is_err() {
+            self.is_cut = true;
+        }
+    }
+
     /// Adds numbers, each behind a blank.
     pub fn add_numbers(&mut self, numbers: &[u64]) {
         for number in numbers {

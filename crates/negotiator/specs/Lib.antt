@@ -1,5 +1,6 @@
 pub mod StandIns
 pub mod Between
+pub mod Known
 pub mod Contacts
 pub mod Wider
 pub mod CellCounts

@@ -8,9 +8,11 @@ ghost use Rattle.topology.specs.Lawful.{IsTopologyNetwork};
 ghost use Rattle.merlin_model.specs.Predicates.{IsPred};
 ghost use Rattle.negotiator.specs.Between.{IsCase};
 ghost use Rattle.negotiator.specs.Contacts.{first_holding as first_of, contact_at, IsFoundUpTo, IsWholeFound, AreProper, preds_of_both, IsLesser, IsWideWith};
+ghost use Rattle.negotiator.specs.Known.{KnowsVerdicts};
 
+use crate::known::{Known, known_verdict, nothing_known};
 use crate::stand_ins::stand_ins;
-use crate::verdicts::{Case, verdict_on};
+use crate::verdicts::Case;
 use merlin_model::OutOfMemory;
 use merlin_model::network::HostAddress;
 use merlin_model::policy::{Field, Pred};
@@ -128,6 +130,7 @@ fn note_packet(
     src: usize,
     dst: usize,
     packet: Packet,
+    kept: &mut Vec<Option<Known>>,
     found: &mut Findings,
 ) -> Result<(), OutOfMemory>
     requires case { IsCase case.now }
@@ -135,7 +138,9 @@ fn note_packet(
     requires dst { IsHost case.now.net.now dst }
     requires packet { IsPacket packet }
     requires proper { IsProper case.now.net.now packet src dst }
-    ensures { OnOk result ((packets : List Header) →
+    requires kept { KnowsVerdicts case.now src dst kept.old.items }
+    ensures kept { OnOk result (KnowsVerdicts case.now src dst kept.new.items) }
+    ensures found { OnOk result ((packets : List Header) →
         IsFoundUpTo case.now.net.now case.now.parent.now.policy case.now.child.now.policy
         src dst packets found.old →
         IsFoundUpTo case.now.net.now case.now.parent.now.policy case.now.child.now.policy
@@ -143,7 +148,7 @@ fn note_packet(
 {
     let _statements = (case.child.statements(), case.parent.statements());
     let contact = contact_of(case, &packet);
-    let verdict = verdict_on(alloc, case, src, dst, contact.child, contact.parent)?;
+    let verdict = known_verdict(alloc, case, src, dst, contact.child, contact.parent, kept)?;
     note_contact(verdict.walks, contact, &mut found.contacts)?;
     let wide = WidePacket { packet, src, dst };
     found.wide = wide_with(verdict.stays, found.wide, wide);
@@ -169,8 +174,9 @@ fn note_packets(
         IsFoundUpTo case.now.net.now case.now.parent.now.policy case.now.child.now.policy
         src dst packets.now found.new) }
 {
+    let mut kept = nothing_known(alloc, case)?;
     for packet in packets {
-        note_packet(alloc, case, src, dst, *packet, found)?;
+        note_packet(alloc, case, src, dst, *packet, &mut kept, found)?;
     }
     Ok(())
 }

@@ -6,6 +6,7 @@ mod comparing;
 mod contacts;
 mod counting;
 mod fault;
+mod known;
 mod marking;
 mod paths;
 mod refining;

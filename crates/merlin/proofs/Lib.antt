@@ -14,3 +14,4 @@ pub mod OneTrace
 pub mod Wiring
 pub mod Unwiring
 pub mod Rewiring
+pub mod Rereading

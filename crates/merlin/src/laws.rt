@@ -50,7 +50,12 @@ ghost use Rattle.merlin.specs.declared.wire.WireReply.{WireReply};
 ghost use Rattle.merlin.specs.Inputs.{AreNetworkAndResult};
 ghost use Rattle.merlin.specs.Wire.{WireForm, IsSwitchNamed, rules_at, message_lines};
 ghost use Rattle.merlin.specs.Wire.{IsWireReply, wire_lines, wire_status};
-ghost use Rattle.merlin.specs.Unwire.{BeginsWithMessages};
+ghost use Rattle.merlin_model.specs.declared.config.Rule.{Rule};
+ghost use Rattle.config_text.specs.Lines.{rule_lines};
+ghost use Rattle.topology_rules.specs.Faults.{IsTopology};
+ghost use Rattle.merlin.specs.declared.unwire.UnwireReply.{UnwireReply};
+ghost use Rattle.merlin.specs.Unwire.{UnwireForm, BeginsWithMessages};
+ghost use Rattle.merlin.specs.Unwire.{IsUnwireReply, unwire_lines, unwire_status};
 ghost use Rattle.merlin.specs.Trace.{TraceForm, IsTracedFrom, IsTraceReply, run_lines, trace_lines, trace_status};
 
 use openflow_wire::message_is_read_back;
@@ -192,6 +197,21 @@ pub fn wire_replies()
     ensures one { (form : WireForm) (contents : List (List ℕ)) (reply other : WireReply) →
         IsWireReply form contents reply → IsWireReply form contents other →
         wire_status other ≡ wire_status reply }
+{
+    one_network();
+}
+
+/// Lines of messages for a switch of the network have the lines of their rules. In any case two replies to the same files and words have one
+/// status.
+pub fn unwire_replies()
+    ensures read { (form : UnwireForm) (topology messages : List ℕ) (net : Network) (switch : ℕ)
+        (rules : List Rule) (reply : UnwireReply) → IsTopology topology net →
+        IsSwitchNamed net form.switch switch → BeginsWithMessages switch messages rules [] →
+        IsUnwireReply form (topology ∷ messages ∷ []) reply →
+        (unwire_status reply ≡ status.Done) × (unwire_lines reply ≡ rule_lines net rules) }
+    ensures one { (form : UnwireForm) (contents : List (List ℕ)) (reply other : UnwireReply) →
+        IsUnwireReply form contents reply → IsUnwireReply form contents other →
+        unwire_status other ≡ unwire_status reply }
 {
     one_network();
 }

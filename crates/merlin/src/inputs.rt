@@ -4,9 +4,9 @@ ghost use Rattle.refusal_text.specs.Refusals.{location_name as location_name_of}
 ghost use Rattle.merlin.specs.Inputs.{wrong_topology_lines as lines_of_topology, wrong_result_lines as lines_of_result};
 ghost use Rattle.merlin.specs.Wire.{IsSwitchNamed, unknown_switch_lines as lines_of_switch};
 
-use refusal_text::net_fault_text;
 use crate::report::{named_line, numbered_line};
 use merlin_base::{Name, OutOfMemory};
+use refusal_text::net_fault_text;
 use std::alloc::Global;
 use topology::{NetFault, Place, Topology};
 

@@ -35,11 +35,7 @@ fn report_to<F: Files, A: Fn(&FnDecl, Packet) -> Packet + Drop>(
 }
 
 // Hands the lines of a report to the sink. It answers how the run ends.
-fn hand_over<K: Sink>(
-    alloc: Global,
-    out: &mut K,
-    report: &Result<Report, OutOfMemory>,
-) -> Status
+fn hand_over<K: Sink>(alloc: Global, out: &mut K, report: &Result<Report, OutOfMemory>) -> Status
     ensures { let sink = taking_of (K.faults out.old) (K.faults out.new)
         (K.taken out.old) (K.taken out.new) in
         EndsByResult sink report.now result }

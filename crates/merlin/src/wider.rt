@@ -7,10 +7,10 @@ ghost use Rattle.config_text.specs.Result.{symbol_text};
 ghost use Rattle.negotiator.specs.declared.fault.RefineFault.TheVariants as refine_faults;
 ghost use Rattle.merlin.specs.Refine.{IsWiderText};
 
-use refusal_text::push_named;
 use merlin_base::{Name, OutOfMemory, name_from};
 use merlin_model::policy::Symbol;
 use packet_model::{Packet, print_packet};
+use refusal_text::push_named;
 use std::alloc::Global;
 use topology::Topology;
 

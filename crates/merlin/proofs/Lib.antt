@@ -19,3 +19,4 @@ pub mod Wiring
 pub mod Unwiring
 pub mod Rewiring
 pub mod Rereading
+pub mod BodyLines

@@ -1,5 +1,5 @@
 -- What the runs of each command leave.
-use Rattle.std.proofs.Common.{◌≡◌, ℕ, List, [], ◌∷◌, refl, sym, ◌∙◌, subst}
+use Rattle.std.proofs.Common.{ap, ◌≡◌, ℕ, List, [], ◌∷◌, refl, sym, ◌∙◌, subst}
 use Rattle.merlin_base.specs.Texts.{joined}
 use Rattle.merlin_base.specs.Outside.{Grows}
 use Rattle.merlin_base.specs.declared.status.Status.{Status}
@@ -31,7 +31,7 @@ use Rattle.merlin.specs.declared.wire.WireReply.{WireReply}
 use Rattle.merlin.specs.declared.wire.WireReply.TheVariants as wire
 use Rattle.merlin.specs.declared.unwire.UnwireReply.{UnwireReply}
 use Rattle.merlin.specs.declared.unwire.UnwireReply.TheVariants as unwire
-use Rattle.merlin.specs.Wire.{WireForm, wire_files, wire_lines, wire_status, HasMessages, IsWireReply}
+use Rattle.merlin.specs.Wire.{WireForm, wire_files, wire_lines, wire_status, rules_at, message_lines, HasMessages, IsWireReply}
 use Rattle.merlin.specs.Unwire.{UnwireForm, unwire_files, unwire_lines, unwire_status, HasSwitch, HasRules, IsUnwireReply}
 use Rattle.merlin.specs.Trace.{TraceForm, trace_files, trace_lines, trace_status, HasEnded, HasNoEnd, IsTraceReply}
 use Rattle.merlin.specs.Outcome.{World, Taking, IsReplied, IsOfRepliesAlone, SaysByStatus}
@@ -166,8 +166,15 @@ was_wired : (form : WireForm) (contents : List (List ℕ)) (reply : WireReply) �
 was_wired form contents (wire.BadTopology fault) means e = done_refused e
 was_wired form contents (wire.BadResult place) means e = done_refused e
 was_wired form contents (wire.UnknownSwitch name) means e = done_refused e
-was_wired form contents (wire.Written lines) (t, r, two, has) e =
-    record { first = t; second = r; two = two; told = lines.items; holds = has; is = refl }
+was_wired form contents (wire.Written switch rules) (t, r, two, has) e =
+    record {
+      first = t;
+      second = r;
+      two = two;
+      told = message_lines 1 (rules_at switch rules);
+      holds = record { net = has.net; read = has.read; texts = has.texts; switch = switch; is_switch = has.is_switch; written = ap (λ rs. message_lines 1 (rules_at switch rs)) has.are };
+      is = refl;
+    }
 
 was_unwired : (form : UnwireForm) (contents : List (List ℕ)) (reply : UnwireReply) → IsUnwireReply form contents reply
     → status.Done ≡ unwire_status reply → WasWritten contents (unwire_lines reply) (λ t m lines. HasSwitch form t (HasRules m lines))

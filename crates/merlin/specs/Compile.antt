@@ -6,9 +6,8 @@ use Rattle.merlin_base.specs.declared.status.Status.TheVariants as status
 use Rattle.merlin_model.specs.declared.certificate.Tree.{Tree, Leaf}
 use Rattle.merlin_model.specs.declared.policy.Objective.{Objective}
 use Rattle.merlin_model.specs.declared.policy.Value.{Value}
-use Rattle.std.specs.Fmt.{decimal}
 use Rattle.merlin_model.specs.Networks.{Network}
-use Rattle.config_text.specs.Words.{words, line}
+use Rattle.config_text.specs.Words.{line}
 use Rattle.config_text.specs.Result.{objective_word, objective_text, result_lines}
 use Rattle.merlin.specs.declared.reading.TheConstants.{TEXT_LIMIT}
 use Rattle.merlin.specs.declared.compile.TheConstants.{DEFAULT_BUDGET, MAX_BUDGET}
@@ -80,13 +79,7 @@ abbrev pub compile_status : CompileReply → Status
 compile_status (Refused fault) = status.Refused
 compile_status (Least compiled) = status.Done
 
--- the head of a result, and this certificate, line by line
+-- the head of a result, line by line
 abbrev pub head_lines : Objective → Value → List (List ℕ)
 head_lines objective value =
     line (codes "merlin 2 ok") ∷ line (objective_text objective value) ∷ []
-
-abbrev pub leaf_lines : ℕ → List (List ℕ)
-leaf_lines row =
-    line (codes "tree")
-    ∷ line (words (codes "leaf" ∷ (decimal row ++ (codes ":" ++ decimal 1)) ∷ []))
-    ∷ line (codes "end") ∷ []

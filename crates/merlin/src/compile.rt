@@ -1,26 +1,27 @@
 //! The command `compile`.
-ghost use Rattle.std.specs.Prelude.{◌≡◌, ◌≢◌, ◌++◌, ℕ, length, OnOk, IfOk, IfSome, IfNone, codes};
+ghost use Rattle.std.specs.Prelude.{◌≡◌, ◌≢◌, ◌++◌, ℕ, length, IfOk, IfSome, IfNone, codes};
 ghost use Rattle.std.specs.String.{string_bytes};
-ghost use Rattle.config_text.specs.Words.{line};
 ghost use Rattle.config_text.specs.Result.{value_text, objective_word};
 ghost use Rattle.merlin.specs.Words.{word_texts};
 ghost use Rattle.merlin.specs.Reading.{files_wanted, texts_read};
 ghost use Rattle.merlin.specs.Compile.{CompileForm, IsBudget, IsCompileForm, compile_form};
 ghost use Rattle.merlin.specs.Compile.{compile_files, Compiles, compiled_lines, compile_lines};
 ghost use Rattle.merlin.specs.Compile.{IsCompileReply};
-ghost use Rattle.merlin.specs.Compile.{compile_status, head_lines, leaf_lines};
+ghost use Rattle.merlin.specs.Compile.{compile_status, head_lines, cutoff_leaf};
 ghost use Rattle.merlin.specs.Parts.{IsPrintable};
-ghost use Rattle.merlin.specs.Reports.{IsReportWith};
+ghost use Rattle.merlin.specs.Reports.{IsReportWith, IsWrittenAs};
 
 use crate::compiler::{Compiled, EarlyFault, compile_policy};
 use crate::reading::{TEXT_LIMIT, Wanted};
 use crate::refusals::early_fault_text;
-use crate::report::{Report, named_line, push_line};
-use config_text::print;
+use crate::report::{Body, Report, named_line, push_line};
 use merlin_base::{Name, OutOfMemory, Status, read_decimal};
+use merlin_model::certificate::{Tree, Weight};
 use merlin_model::limits::MAX_NODES;
 use merlin_model::policy::{Objective, Value};
+use sqlite_items::Items;
 use std::alloc::Global;
+use topology::Topology;
 
 /// The most nodes of a tree, where the words do not say.
 pub const DEFAULT_BUDGET: u64 = 512;
@@ -167,27 +168,31 @@ fn result_head(alloc: Global, objective: Objective, value: Value) -> Result<Vec<
     Ok(lines)
 }
 
-// Adds the certificate of one leaf on the row after those of the directed links.
-fn push_certificate(alloc: Global, lines: &mut Vec<Name>, rows: usize) -> Result<(), OutOfMemory>
-    ensures { OnOk result (lines.new.items ≡ lines.old.items ++ leaf_lines rows) }
+// The certificate of one leaf on the row after those of the directed links.
+fn certificate_of(alloc: Global, net: &Topology) -> Result<Tree, OutOfMemory>
+    ensures { IfOk result (λ tree. tree ≡ cutoff_leaf net.now) }
 {
-    let weight = 1u64;
-    let leaf = format!(in alloc; "leaf {rows}:{weight}")?;
-    push_line(alloc, lines, "tree")?;
-    push_line(alloc, lines, &leaf)?;
-    push_line(alloc, lines, "end")
+    let mut weights = Items::new(alloc);
+    weights.push(Weight {
+        row: 2 * net.links().len(),
+        weight: 1,
+    })?;
+    Ok(Tree::Leaf(weights))
 }
 
-// The lines of a result: the head, the configuration and the certificate.
-fn result_of(alloc: Global, compiled: &Compiled) -> Result<Vec<Name>, OutOfMemory>
-    requires { IsPrintable (CompileReply.Least compiled.now) }
-    ensures { IfOk result (λ lines. lines.items ≡ compiled_lines compiled.now) }
+// The head of a result, its configuration and its certificate.
+fn result_of(alloc: Global, compiled: Compiled) -> Result<Body, OutOfMemory>
+    requires { IsPrintable (CompileReply.Least compiled) }
+    ensures { IfOk result (λ body. IsWrittenAs body (compiled_lines compiled)) }
 {
-    let rows = 2 * compiled.net.links().len();
-    let mut lines = result_head(alloc, compiled.objective, compiled.value)?;
-    lines.append(&mut print(alloc, &compiled.config, &compiled.net)?)?;
-    push_certificate(alloc, &mut lines, rows)?;
-    Ok(lines)
+    let head = result_head(alloc, compiled.objective, compiled.value)?;
+    let tree = certificate_of(alloc, &compiled.net)?;
+    Ok(Body::Configured {
+        head,
+        net: compiled.net,
+        config: compiled.config,
+        tree,
+    })
 }
 
 fn refused_lines(alloc: Global, fault: &EarlyFault) -> Result<Vec<Name>, OutOfMemory>
@@ -197,12 +202,12 @@ fn refused_lines(alloc: Global, fault: &EarlyFault) -> Result<Vec<Name>, OutOfMe
     named_line(alloc, "refused: ", &text)
 }
 
-fn lines_of(alloc: Global, reply: &CompileReply) -> Result<Vec<Name>, OutOfMemory>
-    requires { IsPrintable reply.now }
-    ensures { IfOk result (λ lines. lines.items ≡ compile_lines reply.now) }
+fn body_of(alloc: Global, reply: CompileReply) -> Result<Body, OutOfMemory>
+    requires { IsPrintable reply }
+    ensures { IfOk result (λ body. IsWrittenAs body (compile_lines reply)) }
 {
     match reply {
-        CompileReply::Refused(fault) => refused_lines(alloc, fault),
+        CompileReply::Refused(fault) => Ok(Body::Lines(refused_lines(alloc, &fault)?)),
         CompileReply::Least(compiled) => result_of(alloc, compiled),
     }
 }
@@ -216,16 +221,14 @@ fn status_of(reply: &CompileReply) -> Status
     }
 }
 
-fn report_on(alloc: Global, reply: &CompileReply) -> Result<Report, OutOfMemory>
-    requires { IsPrintable reply.now }
-    ensures lines { IfOk result (λ report. report.lines.items ≡ compile_lines reply.now) }
-    ensures status { IfOk result (λ report. report.status ≡ compile_status reply.now) }
+fn report_on(alloc: Global, reply: CompileReply) -> Result<Report, OutOfMemory>
+    requires { IsPrintable reply }
+    ensures lines { IfOk result (λ report. IsWrittenAs report.body (compile_lines reply)) }
+    ensures status { IfOk result (λ report. report.status ≡ compile_status reply) }
 {
-    let lines = lines_of(alloc, reply)?;
-    Ok(Report {
-        lines,
-        status: status_of(reply),
-    })
+    let status = status_of(&reply);
+    let body = body_of(alloc, reply)?;
+    Ok(Report { body, status })
 }
 
 /// What is reported of the contents of its files.
@@ -240,7 +243,7 @@ pub fn compile_report(
         IfOk result (IsReportWith is_reply compile_lines compile_status) }
 {
     match compile_reply(alloc, command, &contents[0], &contents[1]) {
-        Ok(reply) => report_on(alloc, &reply),
+        Ok(reply) => report_on(alloc, reply),
         Err(OutOfMemory) => Err(OutOfMemory),
     }
 }

@@ -7,6 +7,7 @@ mod compiler;
 mod configuring;
 mod fair;
 mod fairness;
+mod handing;
 mod inputs;
 pub mod laws;
 mod program;

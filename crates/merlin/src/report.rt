@@ -6,13 +6,42 @@ ghost use Rattle.merlin.specs.Outcome.{NoForm, NotRead, TooLong};
 ghost use Rattle.merlin.specs.Parts.{IsReportOf, Tells};
 
 use crate::reading::Unread;
+use config_text::Config;
 use merlin_base::{Name, OutOfMemory, Status, name_from};
+use merlin_model::certificate::Tree;
+use merlin_model::config::Rule;
+use sqlite_items::Items;
 use std::alloc::Global;
+use topology::Topology;
 
-/// The lines that are written, and the status once they are.
+/// What is written. Where it is long, its lines are made one at a time, when they are handed over.
+#[derive(Drop)]
+pub enum Body {
+    /// These lines.
+    Lines(Vec<Name>),
+    /// First lines, and a certificate.
+    Certified {
+        head: Vec<Name>,
+        tree: Tree,
+    },
+    /// First lines, a configuration over a network, and a certificate.
+    Configured {
+        head: Vec<Name>,
+        net: Topology,
+        config: Config,
+        tree: Tree,
+    },
+    /// The message of each rule that is at the switch.
+    Messages {
+        switch: usize,
+        rules: Items<Rule>,
+    },
+}
+
+/// What is written, and the status once it is.
 #[derive(Drop)]
 pub struct Report {
-    pub lines: Vec<Name>,
+    pub body: Body,
     pub status: Status,
 }
 
@@ -63,7 +92,7 @@ pub fn usage_report(alloc: Global) -> Result<Report, OutOfMemory>
 {
     let lines = one_line(alloc, USAGE)?;
     Ok(Report {
-        lines,
+        body: Body::Lines(lines),
         status: Status::Usage,
     })
 }
@@ -74,7 +103,7 @@ fn fault_report(alloc: Global) -> Result<Report, OutOfMemory>
 {
     let lines = one_line(alloc, "fault: read")?;
     Ok(Report {
-        lines,
+        body: Body::Lines(lines),
         status: Status::ReadFault,
     })
 }
@@ -85,7 +114,7 @@ fn too_long_report(alloc: Global, name: &Name) -> Result<Report, OutOfMemory>
 {
     let lines = named_line(alloc, "refused: too long ", name)?;
     Ok(Report {
-        lines,
+        body: Body::Lines(lines),
         status: Status::Refused,
     })
 }

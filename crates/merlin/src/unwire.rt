@@ -7,7 +7,7 @@ ghost use Rattle.merlin_model.specs.declared.config.Rule.{Rule as Stated};
 ghost use Rattle.topology_rules.specs.Faults.{IsTopology};
 ghost use Rattle.merlin.specs.Words.{word_texts};
 ghost use Rattle.merlin.specs.Reading.{files_wanted, texts_read};
-ghost use Rattle.merlin.specs.Reports.{IsReportWith};
+ghost use Rattle.merlin.specs.Reports.{IsReportWith, IsWrittenAs};
 ghost use Rattle.merlin.specs.Unwire.{UnwireForm, IsUnwireForm, unwire_form, unwire_files};
 ghost use Rattle.merlin.specs.Unwire.{IsLineOfRule, BeginsWithMessages, no_digits_text, bad_message_text};
 ghost use Rattle.merlin.specs.Unwire.{Unwires, IsUnwireReply, unwire_lines as lines_of_reply, unwire_status};
@@ -15,7 +15,7 @@ ghost use Rattle.merlin.specs.Messages.{IsDigitsFault, IsLineBefore, IsFaultBefo
 
 use crate::inputs::{switch_named, unknown_switch_lines, wrong_topology_lines};
 use crate::reading::{RESULT_LIMIT, TEXT_LIMIT, Wanted};
-use crate::report::{Report, one_line};
+use crate::report::{Body, Report, one_line};
 use config_text::{Config, print};
 use hex::FromHexError;
 use merlin_base::{Name, OutOfMemory, Status, name_from, split_at_byte};
@@ -275,12 +275,15 @@ fn status_of(reply: &UnwireReply) -> Status
 
 // What is reported of a reply.
 fn report_on(alloc: Global, reply: UnwireReply) -> Result<Report, OutOfMemory>
-    ensures lines { IfOk result (λ report. report.lines.items ≡ lines_of_reply reply) }
+    ensures lines { IfOk result (λ report. IsWrittenAs report.body (lines_of_reply reply)) }
     ensures status { IfOk result (λ report. report.status ≡ unwire_status reply) }
 {
     let status = status_of(&reply);
     let lines = lines_of(alloc, reply)?;
-    Ok(Report { lines, status })
+    Ok(Report {
+        body: Body::Lines(lines),
+        status,
+    })
 }
 
 /// What is reported of the contents of its files.

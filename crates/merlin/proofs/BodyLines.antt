@@ -1,12 +1,12 @@
 -- What is reported, part by part.
-use Rattle.std.proofs.Common.{◌≡◌, ◌≤◌, ◌<◌, ◌+◌, ◌*◌, ◌==◌, ℕ, suc, Bool, true, false, cond, List, [], ◌∷◌, ◌++◌, map, length, take, drop, get_or, Option, refl, sym, ◌∙◌, ap, subst, append_assoc, append-nil, arith, length-append, length-take, drop-cons}
+use Rattle.std.proofs.Common.{◌≡◌, ◌≤◌, ◌<◌, ◌+◌, ◌==◌, ℕ, suc, Bool, true, false, cond, List, [], ◌∷◌, ◌++◌, map, length, take, drop, get_or, Option, refl, sym, ◌∙◌, ap, subst, append_assoc, append-nil, arith, length-append, length-take, drop-cons}
 use Rattle.std.specs.Prelude.{codes}
 use Rattle.std.specs.List.{flat_map}
 use Rattle.std.proofs.lemmas.List.{take_more, take-append-drop}
 use Rattle.merlin_base.specs.Texts.{joined}
 use Rattle.merlin_base.specs.Outside.{Grows, GrowsByPrefix}
 use Rattle.merlin_base.specs.Pairs.{pairs_text}
-use Rattle.merlin_base.specs.NodeTexts.{pair_of, node_line, node_lines}
+use Rattle.merlin_base.specs.NodeTexts.{pair_of, node_line}
 use Rattle.merlin_base.proofs.Taking.{Grows-none, Grows-join, GrowsByPrefix-join}
 use Rattle.merlin_model.specs.declared.certificate.Weight.{Weight}
 use Rattle.merlin_model.specs.declared.certificate.Tree.{Tree}

@@ -1,13 +1,11 @@
 -- Messages that are written are read back.
-use Rattle.std.proofs.Common.{◌≡◌, ◌≤◌, ◌<◌, ◌+◌, ◌==◌, ◌^◌, ℕ, zero, suc, Bool, true, false, cond, List, [], ◌∷◌, ◌++◌, length, filter, Result, Ok, refl, sym, ◌∙◌, ap, subst, arith, append-nil}
-use Rattle.std.specs.Prelude.{slice_index}
+use Rattle.std.proofs.Common.{◌≡◌, ◌≤◌, ◌<◌, ◌+◌, ◌==◌, ◌^◌, ℕ, zero, suc, Bool, true, false, cond, List, [], ◌∷◌, ◌++◌, length, refl, sym, ◌∙◌, ap, subst, arith, append-nil}
 use Rattle.std.specs.List.{AllByRecursion, AllZip, flat_map}
 use Rattle.std.specs.Int.{bytes_high_first}
-use Rattle.hex.specs.Hex.{encode_lower, decode_of, IsBytes}
+use Rattle.hex.specs.Hex.{encode_lower, IsBytes}
 use Rattle.hex.proofs.HexLemmas.{decode_of-encode_lower}
 use Rattle.merlin_base.specs.Texts.{joined}
 use Rattle.merlin_base.specs.declared.status.Status.TheVariants as status
-use Rattle.merlin_model.specs.declared.config.Action.{Action}
 use Rattle.merlin_model.specs.declared.config.Rule.{Rule}
 use Rattle.merlin_model.specs.Networks.{Network, IsNetwork}
 use Rattle.config_text.specs.Words.{line}

@@ -1,5 +1,5 @@
 -- What the command `wire` replies.
-use Rattle.std.proofs.Common.{◌≡◌, ◌≢◌, ◌≤◌, ◌<◌, ◌+◌, ◌/◌, ◌%◌, ◌^◌, ◌==◌, ◌⊎◌, inl, inr, ℕ, suc, Bool, cond, true, false, List, [], ◌∷◌, ◌++◌, length, get_or, refl, sym, ◌∙◌, ap, subst, arith, option_map, filter, append_assoc}
+use Rattle.std.proofs.Common.{◌≡◌, ◌≢◌, ◌≤◌, ◌<◌, ◌+◌, ◌/◌, ◌%◌, ◌^◌, ◌⊎◌, inl, inr, ℕ, List, [], ◌∷◌, ◌++◌, length, get_or, refl, sym, ◌∙◌, ap, subst, arith, option_map}
 use Rattle.std.specs.Prelude.{Option, Some, None, IfSome}
 use Rattle.std.specs.List.{All, AllByRecursion}
 use Rattle.std.specs.String.{string_bytes}
@@ -24,7 +24,7 @@ use Rattle.merlin_model.specs.declared.network.Place.{Place}
 use Rattle.merlin_model.specs.declared.network.Place.TheVariants as places
 use Rattle.merlin_model.specs.Networks.{Network, IsNetwork, IsSwitch, kind_of}
 use Rattle.topology.specs.Look.{place_of_kind, place_at}
-use Rattle.config_lines.specs.Words.{IsLimited, IsOptional}
+use Rattle.config_lines.specs.Words.{IsOptional}
 use Rattle.config_lines.specs.Parts.{IsLineVlan, IsLineMatch, IsLineOut, IsTagging, IsSending, AreLineActions}
 use Rattle.config_lines.specs.Lines.{IsRuleLine}
 use Rattle.config_read.specs.declared.result.Head.{Head}
@@ -32,12 +32,12 @@ use Rattle.config_read.specs.declared.result.Head.TheVariants.{Least, Infeasible
 use Rattle.config_read.specs.declared.result.ResultText.{ResultText}
 use Rattle.config_read.specs.Results.{IsConfigOf}
 use Rattle.config_read.specs.Answers.{IsTextOfResult}
-use Rattle.openflow_wire.specs.declared.numbers.Number.TheVariants.{Byte, Short, Word}
+use Rattle.openflow_wire.specs.declared.numbers.Number.TheVariants.{Byte, Short}
 use Rattle.openflow_wire.specs.Fields.{number_bytes, bytes_of}
-use Rattle.openflow_wire.specs.Messages.{actions_bytes, match_numbers, header_numbers, message_of}
+use Rattle.openflow_wire.specs.Messages.{actions_bytes, header_numbers, message_of}
 use Rattle.openflow_wire.specs.Rules.{IsOut, IsVlan, IsMatch, ChangesTag, Sends, AreActions, IsRule}
 use Rattle.merlin.specs.Inputs.{BearsName}
-use Rattle.merlin.specs.Wire.{WireForm, IsSwitchNamed, Wires, HasMessagesAlone}
+use Rattle.merlin.specs.Wire.{WireForm, IsSwitchNamed, Wires, HaveMessages}
 use Rattle.merlin.specs.declared.wire.WireReply.{WireReply}
 use Rattle.merlin.specs.declared.wire.WireReply.TheVariants as wire
 use Rattle.merlin.proofs.Tracing.{one_bearer}
@@ -142,7 +142,7 @@ have_rules net bytes read is = config_has net read.head read.config is.is.config
 pub have_messages : (net : Network) (bytes : List ℕ) (read : ResultText) → IsTextOfResult net bytes read → All IsRule read.config.rules
 have_messages net bytes read is = All-from_recursion IsRule read.config.rules (config_has net read.head read.config is.is.config)
 
-pub have_alone : (form : WireForm) (topology result : List ℕ) (reply : WireReply) → Wires form topology result reply → HasMessagesAlone reply
+pub have_alone : (form : WireForm) (topology result : List ℕ) (reply : WireReply) → Wires form topology result reply → HaveMessages reply
 have_alone form topology result (wire.BadTopology fault) h = tt
 have_alone form topology result (wire.BadResult at) h = tt
 have_alone form topology result (wire.UnknownSwitch name) h = tt

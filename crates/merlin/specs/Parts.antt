@@ -11,7 +11,7 @@ use Rattle.merlin.specs.declared.reading.Unread.{Unread}
 use Rattle.merlin.specs.declared.reading.Unread.TheVariants as unread
 use Rattle.merlin.specs.declared.compile.CompileReply.{CompileReply}
 use Rattle.merlin.specs.declared.compile.CompileReply.TheVariants.{Refused, Least}
-use Rattle.merlin.specs.Reports.{IsReportWith, IsWrittenAs, IsWritable, body_lines}
+use Rattle.merlin.specs.Reports.{IsReportWith, IsWrittenAs, CanBeMade, body_lines}
 use Rattle.merlin.specs.Commands.{Form, Means, reply_lines, reply_status}
 use Rattle.merlin.specs.Outcome.{World, Taking, IsBrokenOff, LacksMemory, Answer, NotRead, TooLong, IsAnswerTo, answer_lines, answer_status}
 
@@ -44,7 +44,7 @@ IsPrintable (Least compiled) = IsConfigOver compiled.net compiled.config
 
 -- each line of the report can be made
 abbrev pub CanBeWritten : {E : Type 0} → Result Report E → Type 0
-CanBeWritten result = IfOk result (λ report. IsWritable report.body)
+CanBeWritten result = IfOk result (λ report. CanBeMade report.body)
 
 -- The sink took the lines of the report, whose status it is, or a prefix of them.
 abbrev pub EndsBy : Taking → Report → Status → Type 0

@@ -7,8 +7,8 @@ use Rattle.config_text.specs.Words.{line}
 use Rattle.config_text.specs.Lines.{config_lines, IsConfigOver}
 use Rattle.config_text.specs.Result.{tree_lines}
 use Rattle.openflow_wire.specs.Rules.{IsRule}
-use Rattle.merlin.specs.declared.report.Body.{Body}
-use Rattle.merlin.specs.declared.report.Body.TheVariants.{Lines, Certified, Configured, Messages}
+use Rattle.merlin.specs.declared.report.ReportBody.{ReportBody}
+use Rattle.merlin.specs.declared.report.ReportBody.TheVariants.{Lines, Certified, Configured, Messages}
 use Rattle.merlin.specs.declared.report.Report.{Report}
 use Rattle.merlin.specs.Wire.{rules_at, message_lines}
 
@@ -17,7 +17,7 @@ abbrev pub certificate_lines : Tree → List (List ℕ)
 certificate_lines tree = line (codes "tree") ∷ (tree_lines tree ++ line (codes "end") ∷ [])
 
 -- all lines of what is written
-abbrev pub body_lines : Body → List (List ℕ)
+abbrev pub body_lines : ReportBody → List (List ℕ)
 body_lines (Lines lines) = lines.items
 body_lines (Certified head tree) = head.items ++ certificate_lines tree
 body_lines (Configured head net config tree) =
@@ -25,16 +25,16 @@ body_lines (Configured head net config tree) =
 body_lines (Messages switch rules) = message_lines 1 (rules_at switch rules)
 
 -- each line can be made
-abbrev pub IsWritable : Body → Type 0
-IsWritable (Lines lines) = ⊤
-IsWritable (Certified head tree) = ⊤
-IsWritable (Configured head net config tree) = IsConfigOver net config
-IsWritable (Messages switch rules) = All IsRule rules
+abbrev pub CanBeMade : ReportBody → Type 0
+CanBeMade (Lines lines) = ⊤
+CanBeMade (Certified head tree) = ⊤
+CanBeMade (Configured head net config tree) = IsConfigOver net config
+CanBeMade (Messages switch rules) = All IsRule rules
 
 -- these are the lines, and each can be made
-pub record IsWrittenAs (body : Body) (lines : List (List ℕ)) : Type 0 where
+pub record IsWrittenAs (body : ReportBody) (lines : List (List ℕ)) : Type 0 where
   pub are : body_lines body ≡ lines
-  pub writable : IsWritable body
+  pub writable : CanBeMade body
 
 -- the report has the lines and the status of a reply of which this is true
 pub record IsReportWith {R : Type 0} (IsTrueOf : R → Type 0) (lines_of : R → List (List ℕ))

@@ -10,7 +10,6 @@ use Rattle.config_text.specs.Words.{line}
 use Rattle.config_read.specs.declared.result.ResultText.{ResultText}
 use Rattle.openflow_wire.specs.Messages.{message_of}
 use Rattle.openflow_wire.specs.Rules.{IsRule}
-use Rattle.topology_rules.specs.declared.fault.NetFault.{NetFault}
 use Rattle.merlin.specs.Inputs.{IsWrongTopology, HasWrongResult, AreNetworkAndResult, BearsName, wrong_topology_lines, wrong_result_lines}
 use Rattle.merlin.specs.declared.reading.TheConstants.{TEXT_LIMIT, RESULT_LIMIT}
 use Rattle.merlin.specs.declared.wire.Wire.{Wire}
@@ -110,11 +109,11 @@ wire_lines (UnknownSwitch name) = unknown_switch_lines name
 wire_lines (Written switch rules) = message_lines 1 (rules_at switch rules)
 
 -- each rule of the reply has a message
-abbrev pub HasMessagesAlone : WireReply → Type 0
-HasMessagesAlone (BadTopology fault) = ⊤
-HasMessagesAlone (BadResult at) = ⊤
-HasMessagesAlone (UnknownSwitch name) = ⊤
-HasMessagesAlone (Written switch rules) = All IsRule rules
+abbrev pub HaveMessages : WireReply → Type 0
+HaveMessages (BadTopology fault) = ⊤
+HaveMessages (BadResult at) = ⊤
+HaveMessages (UnknownSwitch name) = ⊤
+HaveMessages (Written switch rules) = All IsRule rules
 
 abbrev pub wire_status : WireReply → Status
 wire_status (BadTopology fault) = status.Refused

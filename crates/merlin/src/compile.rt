@@ -14,7 +14,7 @@ ghost use Rattle.merlin.specs.Reports.{IsReportWith, IsWrittenAs};
 use crate::compiler::{Compiled, EarlyFault, compile_policy};
 use crate::reading::{TEXT_LIMIT, Wanted};
 use crate::refusals::early_fault_text;
-use crate::report::{Body, Report, named_line, push_line};
+use crate::report::{Report, ReportBody, named_line, push_line};
 use merlin_base::{Name, OutOfMemory, Status, read_decimal};
 use merlin_model::certificate::{Tree, Weight};
 use merlin_model::limits::MAX_NODES;
@@ -181,13 +181,13 @@ fn certificate_of(alloc: Global, net: &Topology) -> Result<Tree, OutOfMemory>
 }
 
 // The head of a result, its configuration and its certificate.
-fn result_of(alloc: Global, compiled: Compiled) -> Result<Body, OutOfMemory>
+fn result_of(alloc: Global, compiled: Compiled) -> Result<ReportBody, OutOfMemory>
     requires { IsPrintable (CompileReply.Least compiled) }
     ensures { IfOk result (λ body. IsWrittenAs body (compiled_lines compiled)) }
 {
     let head = result_head(alloc, compiled.objective, compiled.value)?;
     let tree = certificate_of(alloc, &compiled.net)?;
-    Ok(Body::Configured {
+    Ok(ReportBody::Configured {
         head,
         net: compiled.net,
         config: compiled.config,
@@ -202,12 +202,12 @@ fn refused_lines(alloc: Global, fault: &EarlyFault) -> Result<Vec<Name>, OutOfMe
     named_line(alloc, "refused: ", &text)
 }
 
-fn body_of(alloc: Global, reply: CompileReply) -> Result<Body, OutOfMemory>
+fn body_of(alloc: Global, reply: CompileReply) -> Result<ReportBody, OutOfMemory>
     requires { IsPrintable reply }
     ensures { IfOk result (λ body. IsWrittenAs body (compile_lines reply)) }
 {
     match reply {
-        CompileReply::Refused(fault) => Ok(Body::Lines(refused_lines(alloc, &fault)?)),
+        CompileReply::Refused(fault) => Ok(ReportBody::Lines(refused_lines(alloc, &fault)?)),
         CompileReply::Least(compiled) => result_of(alloc, compiled),
     }
 }

@@ -10,7 +10,7 @@ ghost use Rattle.merlin.specs.Fair.{AreBestLines, Divides, refused_demands_lines
 ghost use Rattle.merlin.specs.Fair.{IsFairReply, fair_lines, fair_status};
 
 use crate::reading::{TEXT_LIMIT, Wanted};
-use crate::report::{Body, Report, named_line, one_line};
+use crate::report::{Report, ReportBody, named_line, one_line};
 use fair_share::{DemandFault, Demands, divide, print_shares, read};
 use merlin_base::{Name, OutOfMemory, Status};
 use std::alloc::Global;
@@ -112,11 +112,11 @@ fn report_on(alloc: Global, reply: FairReply) -> Result<Report, OutOfMemory>
 {
     match reply {
         FairReply::Refused(fault) => Ok(Report {
-            body: Body::Lines(demand_fault_lines(alloc, &fault)?),
+            body: ReportBody::Lines(demand_fault_lines(alloc, &fault)?),
             status: Status::Refused,
         }),
         FairReply::Divided(lines) => Ok(Report {
-            body: Body::Lines(lines),
+            body: ReportBody::Lines(lines),
             status: Status::Done,
         }),
     }

@@ -10,7 +10,7 @@ ghost use Rattle.merlin.specs.Fairness.{IsFairnessReply, fairness_lines, fairnes
 
 use crate::fair::demand_fault_lines;
 use crate::reading::{TEXT_LIMIT, Wanted};
-use crate::report::{Body, Report, named_line, numbered_line, one_line};
+use crate::report::{Report, ReportBody, named_line, numbered_line, one_line};
 use fair_share::{DemandFault, Demands, Share, SharesFault, fair, read, read_shares};
 use merlin_base::{Name, OutOfMemory, Status};
 use std::alloc::Global;
@@ -140,7 +140,7 @@ fn report_on(alloc: Global, reply: &FairnessReply) -> Result<Report, OutOfMemory
 {
     let lines = lines_of(alloc, reply)?;
     Ok(Report {
-        body: Body::Lines(lines),
+        body: ReportBody::Lines(lines),
         status: status_of(reply),
     })
 }

@@ -7,9 +7,9 @@ ghost use Rattle.merlin_base.specs.Texts.{joined};
 ghost use Rattle.config_text.specs.Lines.{config_lines, IsConfigOver};
 ghost use Rattle.openflow_wire.specs.Rules.{IsRule};
 ghost use Rattle.merlin.specs.Wire.{rules_at, message_line, message_lines};
-ghost use Rattle.merlin.specs.Reports.{certificate_lines, body_lines, IsWritable};
+ghost use Rattle.merlin.specs.Reports.{certificate_lines, body_lines, CanBeMade};
 
-use crate::report::Body;
+use crate::report::ReportBody;
 use certificate_text::write_tree;
 use config_text::{Config, write_config};
 use merlin_base::{Name, OutOfMemory, OutsideFault, Sink, write_all, write_lines};
@@ -141,8 +141,12 @@ fn write_result<K: Sink>(
 ///
 /// # Errors
 /// Where the sink fails or memory runs out, a prefix of the text was taken.
-pub fn write_body<K: Sink>(alloc: Global, out: &mut K, body: &Body) -> Result<(), OutsideFault>
-    requires { IsWritable body.now }
+pub fn write_body<K: Sink>(
+    alloc: Global,
+    out: &mut K,
+    body: &ReportBody,
+) -> Result<(), OutsideFault>
+    requires { CanBeMade body.now }
     ensures ok { let lines = body_lines body.now in
         OnOk result (Grows (K.taken out.old) (K.taken out.new) (joined lines)) }
     ensures err { let lines = body_lines body.now in
@@ -151,14 +155,19 @@ pub fn write_body<K: Sink>(alloc: Global, out: &mut K, body: &Body) -> Result<()
     ensures failed { FailsOnlyIf result (Rose (K.faults out.old) (K.faults out.new)) }
 {
     match body {
-        Body::Lines(lines) => write_lines(out, lines),
-        Body::Certified { head, tree } => write_certified(alloc, out, head, tree),
-        Body::Configured {
+        ReportBody::Lines(lines) => write_lines(out, lines),
+        ReportBody::Certified { head, tree } => write_certified(alloc, out, head, tree),
+        ReportBody::Configured {
             head,
             net,
             config,
             tree,
         } => write_result(alloc, out, head, net, config, tree),
-        Body::Messages { switch, rules } => write_messages(alloc, out, *switch, rules.as_slice()),
+        ReportBody::Messages { switch, rules } => write_messages(
+            alloc,
+            out,
+            *switch,
+            rules.as_slice(),
+        ),
     }
 }

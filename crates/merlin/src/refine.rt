@@ -16,7 +16,7 @@ ghost use Rattle.merlin.specs.Reports.{IsReportWith, IsWrittenAs};
 
 use crate::reading::{TEXT_LIMIT, Wanted};
 use crate::refusals::{check_fault_text, net_fault_text, policy_fault_text};
-use crate::report::{Body, Report, named_line, one_line};
+use crate::report::{Report, ReportBody, named_line, one_line};
 use crate::wider::{cap_text, path_text, reserve_text};
 use merlin_base::{Name, OutOfMemory, Status};
 use negotiator::RefineFault;
@@ -282,7 +282,7 @@ fn report_on(alloc: Global, reply: &RefineReply) -> Result<Report, OutOfMemory>
 {
     let lines = lines_of(alloc, reply)?;
     Ok(Report {
-        body: Body::Lines(lines),
+        body: ReportBody::Lines(lines),
         status: status_of(reply),
     })
 }

@@ -7,7 +7,7 @@ ghost use Rattle.merlin.specs.Refute.{Checks, IsRefuteReply, refute_lines, refut
 ghost use Rattle.merlin.specs.Reports.{IsReportWith, IsWrittenAs};
 
 use crate::reading::{TEXT_LIMIT, Wanted};
-use crate::report::{Body, Report, numbered_line, one_line};
+use crate::report::{Report, ReportBody, numbered_line, one_line};
 use certificate_text::{ProgramTextFault, TreeTextFault, read_program, read_tree};
 use merlin_base::{Name, OutOfMemory, Status};
 use std::alloc::Global;
@@ -114,7 +114,7 @@ fn report_on(alloc: Global, reply: RefuteReply) -> Result<Report, OutOfMemory>
 {
     let lines = lines_of(alloc, reply)?;
     Ok(Report {
-        body: Body::Lines(lines),
+        body: ReportBody::Lines(lines),
         status: status_of(reply),
     })
 }

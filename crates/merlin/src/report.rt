@@ -16,7 +16,7 @@ use topology::Topology;
 
 /// What is written. Where it is long, its lines are made one at a time, when they are handed over.
 #[derive(Drop)]
-pub enum Body {
+pub enum ReportBody {
     /// These lines.
     Lines(Vec<Name>),
     /// First lines, and a certificate.
@@ -41,7 +41,7 @@ pub enum Body {
 /// What is written, and the status once it is.
 #[derive(Drop)]
 pub struct Report {
-    pub body: Body,
+    pub body: ReportBody,
     pub status: Status,
 }
 
@@ -92,7 +92,7 @@ pub fn usage_report(alloc: Global) -> Result<Report, OutOfMemory>
 {
     let lines = one_line(alloc, USAGE)?;
     Ok(Report {
-        body: Body::Lines(lines),
+        body: ReportBody::Lines(lines),
         status: Status::Usage,
     })
 }
@@ -103,7 +103,7 @@ fn fault_report(alloc: Global) -> Result<Report, OutOfMemory>
 {
     let lines = one_line(alloc, "fault: read")?;
     Ok(Report {
-        body: Body::Lines(lines),
+        body: ReportBody::Lines(lines),
         status: Status::ReadFault,
     })
 }
@@ -114,7 +114,7 @@ fn too_long_report(alloc: Global, name: &Name) -> Result<Report, OutOfMemory>
 {
     let lines = named_line(alloc, "refused: too long ", name)?;
     Ok(Report {
-        body: Body::Lines(lines),
+        body: ReportBody::Lines(lines),
         status: Status::Refused,
     })
 }

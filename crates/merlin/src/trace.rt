@@ -17,7 +17,7 @@ ghost use Rattle.merlin.specs.Trace.{trace_lines as lines_of_reply, trace_status
 
 use crate::inputs::{wrong_result_lines, wrong_topology_lines};
 use crate::reading::{RESULT_LIMIT, TEXT_LIMIT, Wanted};
-use crate::report::{Body, Report, named_line, numbered_line, one_line};
+use crate::report::{Report, ReportBody, named_line, numbered_line, one_line};
 use crate::trace_lines::{delivered_line, dropped_line, push_visits};
 use config_read::{ConfigFault, ResultText, read as read_result};
 use config_text::Config;
@@ -299,7 +299,7 @@ fn report_on(alloc: Global, reply: TraceReply) -> Result<Report, OutOfMemory>
     let status = status_of(&reply);
     let lines = lines_of(alloc, reply)?;
     Ok(Report {
-        body: Body::Lines(lines),
+        body: ReportBody::Lines(lines),
         status,
     })
 }

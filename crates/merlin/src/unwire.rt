@@ -15,7 +15,7 @@ ghost use Rattle.merlin.specs.Messages.{IsDigitsFault, IsLineBefore, IsFaultBefo
 
 use crate::inputs::{switch_named, unknown_switch_lines, wrong_topology_lines};
 use crate::reading::{RESULT_LIMIT, TEXT_LIMIT, Wanted};
-use crate::report::{Body, Report, one_line};
+use crate::report::{Report, ReportBody, one_line};
 use config_text::{Config, print};
 use hex::FromHexError;
 use merlin_base::{Name, OutOfMemory, Status, name_from, split_at_byte};
@@ -281,7 +281,7 @@ fn report_on(alloc: Global, reply: UnwireReply) -> Result<Report, OutOfMemory>
     let status = status_of(&reply);
     let lines = lines_of(alloc, reply)?;
     Ok(Report {
-        body: Body::Lines(lines),
+        body: ReportBody::Lines(lines),
         status,
     })
 }

@@ -6,12 +6,12 @@ ghost use Rattle.merlin.specs.Reading.{files_wanted, texts_read};
 ghost use Rattle.merlin.specs.Reports.{IsReportWith, IsWrittenAs};
 ghost use Rattle.merlin.specs.Inputs.{AreNetworkAndResult};
 ghost use Rattle.merlin.specs.Wire.{WireForm, IsWireForm, wire_form, wire_files};
-ghost use Rattle.merlin.specs.Wire.{HasMessagesAlone, Wires, IsWireReply};
+ghost use Rattle.merlin.specs.Wire.{HaveMessages, Wires, IsWireReply};
 ghost use Rattle.merlin.specs.Wire.{wire_lines as lines_of_reply, wire_status};
 
 use crate::inputs::{switch_named, unknown_switch_lines, wrong_result_lines, wrong_topology_lines};
 use crate::reading::{RESULT_LIMIT, TEXT_LIMIT, Wanted};
-use crate::report::{Body, Report};
+use crate::report::{Report, ReportBody};
 use config_read::{ConfigFault, ResultText, read as read_result};
 use merlin_base::{Name, OutOfMemory, Status, name_from};
 use merlin_model::config::Rule;
@@ -133,15 +133,19 @@ fn wire_reply(
     }
 }
 
-fn body_of(alloc: Global, reply: WireReply) -> Result<Body, OutOfMemory>
-    requires { HasMessagesAlone reply }
+fn body_of(alloc: Global, reply: WireReply) -> Result<ReportBody, OutOfMemory>
+    requires { HaveMessages reply }
     ensures { IfOk result (λ body. IsWrittenAs body (lines_of_reply reply)) }
 {
     match reply {
-        WireReply::BadTopology(fault) => Ok(Body::Lines(wrong_topology_lines(alloc, &fault)?)),
-        WireReply::BadResult(at) => Ok(Body::Lines(wrong_result_lines(alloc, at)?)),
-        WireReply::UnknownSwitch(name) => Ok(Body::Lines(unknown_switch_lines(alloc, &name)?)),
-        WireReply::Written { switch, rules } => Ok(Body::Messages { switch, rules }),
+        WireReply::BadTopology(fault) => Ok(ReportBody::Lines(wrong_topology_lines(
+            alloc, &fault,
+        )?)),
+        WireReply::BadResult(at) => Ok(ReportBody::Lines(wrong_result_lines(alloc, at)?)),
+        WireReply::UnknownSwitch(name) => Ok(ReportBody::Lines(unknown_switch_lines(
+            alloc, &name,
+        )?)),
+        WireReply::Written { switch, rules } => Ok(ReportBody::Messages { switch, rules }),
     }
 }
 
@@ -158,7 +162,7 @@ fn status_of(reply: &WireReply) -> Status
 
 // What is reported of a reply.
 fn report_on(alloc: Global, reply: WireReply) -> Result<Report, OutOfMemory>
-    requires { HasMessagesAlone reply }
+    requires { HaveMessages reply }
     ensures lines { IfOk result (λ report. IsWrittenAs report.body (lines_of_reply reply)) }
     ensures status { IfOk result (λ report. report.status ≡ wire_status reply) }
 {

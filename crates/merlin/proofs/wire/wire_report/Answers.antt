@@ -1,4 +1,3 @@
-use Rattle.merlin.specs.Reading.{texts_read}
 use Rattle.merlin.specs.Wire.{wire_form, wire_lines, wire_status}
 use Rattle.merlin.proofs.Replies.{texts_of_both, IfOk-with}
 use Rattle.merlin.proofs.Wiring.{have_alone}

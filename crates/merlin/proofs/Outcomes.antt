@@ -63,7 +63,7 @@ not_other Unwiring (unwire.BadTopology fault) h = h
 not_other Unwiring (unwire.UnknownSwitch name) h = h
 not_other Unwiring (unwire.NoDigits number) h = h
 not_other Unwiring (unwire.BadMessage number at) h = h
-not_other Unwiring (unwire.Written lines) h = h
+not_other Unwiring (unwire.Written net config) h = h
 
 other : {A : Type 0} (form : Form) (reply : Reply form) (ended wanted : Status) → ended ≡ wanted
     → ended ≡ reply_status form reply → IsOther wanted → A

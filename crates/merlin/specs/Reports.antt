@@ -8,7 +8,7 @@ use Rattle.config_text.specs.Lines.{config_lines, IsConfigOver}
 use Rattle.config_text.specs.Result.{tree_lines}
 use Rattle.openflow_wire.specs.Rules.{IsRule}
 use Rattle.merlin.specs.declared.report.ReportBody.{ReportBody}
-use Rattle.merlin.specs.declared.report.ReportBody.TheVariants.{Lines, Certified, Configured, Messages}
+use Rattle.merlin.specs.declared.report.ReportBody.TheVariants.{Lines, Certified, Configured, Configuration, Messages}
 use Rattle.merlin.specs.declared.report.Report.{Report}
 use Rattle.merlin.specs.Wire.{rules_at, message_lines}
 
@@ -22,6 +22,7 @@ body_lines (Lines lines) = lines.items
 body_lines (Certified head tree) = head.items ++ certificate_lines tree
 body_lines (Configured head net config tree) =
     head.items ++ config_lines net config ++ certificate_lines tree
+body_lines (Configuration net config) = config_lines net config
 body_lines (Messages switch rules) = message_lines 1 (rules_at switch rules)
 
 -- each line can be made
@@ -29,6 +30,7 @@ abbrev pub CanBeMade : ReportBody → Type 0
 CanBeMade (Lines lines) = ⊤
 CanBeMade (Certified head tree) = ⊤
 CanBeMade (Configured head net config tree) = IsConfigOver net config
+CanBeMade (Configuration net config) = IsConfigOver net config
 CanBeMade (Messages switch rules) = All IsRule rules
 
 -- these are the lines, and each can be made

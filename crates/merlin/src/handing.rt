@@ -163,6 +163,7 @@ pub fn write_body<K: Sink>(
             config,
             tree,
         } => write_result(alloc, out, head, net, config, tree),
+        ReportBody::Configuration { net, config } => write_config(alloc, config, net, out),
         ReportBody::Messages { switch, rules } => write_messages(
             alloc,
             out,

@@ -31,6 +31,11 @@ pub enum ReportBody {
         config: Config,
         tree: Tree,
     },
+    /// A configuration over a network.
+    Configuration {
+        net: Topology,
+        config: Config,
+    },
     /// The message of each rule that is at the switch.
     Messages {
         switch: usize,

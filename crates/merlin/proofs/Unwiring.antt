@@ -1,6 +1,5 @@
 -- What the command `unwire` replies.
-use Rattle.std.proofs.Common.{◌≡◌, ◌≢◌, ◌≤◌, ◌<◌, ◌+◌, ◌==◌, ℕ, Bool, true, false, inl, inr, ◌⊎◌, List, [], ◌∷◌, ◌++◌, length, refl, sym, ◌∙◌, ap, subst, arith, append_assoc, append-nil, Result, Ok, Err, IfOk, IfErr}
-use Rattle.std.proofs.lemmas.List.{append_cancel_left}
+use Rattle.std.proofs.Common.{◌≡◌, ◌≢◌, ◌<◌, ◌+◌, ◌==◌, ℕ, Bool, false, inl, inr, ◌⊎◌, List, [], ◌∷◌, ◌++◌, length, refl, sym, ◌∙◌, ap, subst, arith, append_assoc, append-nil, Result, Ok, Err, IfOk}
 use Rattle.std.specs.List.{All, AllByRecursion, AllZip, flat_map}
 use Rattle.std.proofs.lemmas.List.Elements.{All-from_recursion}
 use Rattle.std.specs.Prelude.{Some}
@@ -17,12 +16,12 @@ use Rattle.openflow_wire.specs.Layout.{IsWireFault}
 use Rattle.openflow_wire.specs.declared.reading.WireFault.{WireFault}
 use Rattle.openflow_wire.specs.declared.reading.WireFault.TheVariants.{BadMessage as Bad}
 use Rattle.topology_rules.specs.Faults.{IsTopology}
-use Rattle.merlin.specs.Unwire.{UnwireForm, IsLineOfRule, BeginsWithMessages, HasNoDigits, HasNoMessage, HasRules, rules_alone, HasConfigOf, HasConfigOver, Unwires}
+use Rattle.merlin.specs.Unwire.{UnwireForm, IsLineOfRule, BeginsWithMessages, HasRules, rules_alone, HasConfigOf, HasConfigOver, Unwires}
 use Rattle.merlin.specs.Wire.{IsSwitchNamed}
 use Rattle.merlin_base.specs.Lexemes.{Lacks}
 use Rattle.merlin_base.proofs.Cutting.{free, cut_once}
 use Rattle.merlin.proofs.Tracing.{location_within}
-use Rattle.merlin.specs.Messages.{IsDigitsFault, IsLineBefore, BeginsWrong, IsFaultBefore, IsFaultIn, Unwired}
+use Rattle.merlin.specs.Messages.{IsDigitsFault, IsLineBefore, IsFaultBefore, IsFaultIn, Unwired}
 use Rattle.merlin.specs.declared.unwire.DigitsFault.{DigitsFault}
 use Rattle.merlin.specs.declared.unwire.DigitsFault.TheVariants as faults
 use Rattle.merlin.specs.declared.unwire.UnwireReply.{UnwireReply}

@@ -12,7 +12,6 @@ use Rattle.merlin_model.specs.Networks.{Network}
 use Rattle.config_text.specs.Words.{line}
 use Rattle.config_text.specs.Lines.{rule_lines, config_lines, IsConfigOver}
 use Rattle.openflow_wire.specs.Messages.{message_fault, IsMessage}
-use Rattle.topology_rules.specs.declared.fault.NetFault.{NetFault}
 use Rattle.topology_rules.specs.Faults.{IsTopology}
 use Rattle.merlin.specs.Inputs.{IsWrongTopology, wrong_topology_lines}
 use Rattle.merlin.specs.Wire.{IsSwitchNamed, unknown_switch_lines}

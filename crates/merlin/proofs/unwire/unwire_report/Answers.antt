@@ -1,4 +1,3 @@
-use Rattle.merlin.specs.Reading.{texts_read}
 use Rattle.merlin.specs.Unwire.{unwire_form, unwire_lines, unwire_status}
 use Rattle.merlin.proofs.Replies.{texts_of_both, IfOk-with}
 use Rattle.merlin.proofs.Unwiring.{config_over}

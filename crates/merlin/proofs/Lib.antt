@@ -3,7 +3,6 @@ pub mod Files
 pub mod Unique
 pub mod Outcomes
 pub mod Compiling
-pub mod Certificates
 pub mod Refuting
 pub mod Refining
 pub mod Runs
@@ -15,3 +14,4 @@ pub mod Wiring
 pub mod Unwiring
 pub mod Rewiring
 pub mod Rereading
+pub mod BodyLines

@@ -61,12 +61,12 @@ not_other Tracing trace.StillRunning h = h
 not_other Wiring (wire.BadTopology fault) h = h
 not_other Wiring (wire.BadResult at) h = h
 not_other Wiring (wire.UnknownSwitch name) h = h
-not_other Wiring (wire.Written lines) h = h
+not_other Wiring (wire.Written switch rules) h = h
 not_other Unwiring (unwire.BadTopology fault) h = h
 not_other Unwiring (unwire.UnknownSwitch name) h = h
 not_other Unwiring (unwire.NoDigits number) h = h
 not_other Unwiring (unwire.BadMessage number at) h = h
-not_other Unwiring (unwire.Written lines) h = h
+not_other Unwiring (unwire.Written net config) h = h
 
 other : {A : Type 0} (form : Form) (reply : Reply form) (ended wanted : Status) → ended ≡ wanted
     → ended ≡ reply_status form reply → IsOther wanted → A
@@ -271,9 +271,9 @@ pub IsOutcome-from_report : (world : World) (sink : Taking) (words : List (List 
     (report : Report) → IsReportTo world words report → EndsBy sink report ended
     → IsOutcome world sink words ended
 IsOutcome-from_report world sink words ended report to (inl ends) =
-    inr (to.answer, to.is_answer, inl (ends.0 ∙ to.is_report.status, subst (λ lines. Grows sink.before sink.after (joined lines)) to.is_report.lines ends.1))
+    inr (to.answer, to.is_answer, inl (ends.0 ∙ to.is_report.status, subst (λ lines. Grows sink.before sink.after (joined lines)) to.is_report.lines.are ends.1))
 IsOutcome-from_report world sink words ended report to (inr breaks) =
-    inr (to.answer, to.is_answer, inr (breaks.0, subst (λ lines. GrowsByPrefix sink.before sink.after (joined lines)) to.is_report.lines breaks.1))
+    inr (to.answer, to.is_answer, inr (breaks.0, subst (λ lines. GrowsByPrefix sink.before sink.after (joined lines)) to.is_report.lines.are breaks.1))
 
 pub IsOutcome-from_result : {E : Type 0} (world : World) (sink : Taking) (words : List (List ℕ))
     (ended : Status) (result : Result Report E) → IfOk result (IsReportTo world words)

@@ -8,7 +8,7 @@ use Rattle.merlin.specs.declared.reading.Unread.{Unread}
 use Rattle.merlin.specs.declared.reading.Unread.TheVariants as unread
 use Rattle.merlin.specs.Outcome.{World, NoForm, NotRead, TooLong, Replied, IsNoForm}
 use Rattle.merlin_base.specs.declared.status.Status.{Status}
-use Rattle.merlin.specs.Reports.{IsReportWith, report_lines}
+use Rattle.merlin.specs.Reports.{IsReportWith, IsWrittenAs}
 use Rattle.merlin.specs.Commands.{Form, IsForm, files_of}
 use Rattle.merlin.specs.Parts.{IsReplyReport, IsReportOf, IsReportTo, Tells}
 use Rattle.merlin.specs.declared.report.Report.{Report}
@@ -53,7 +53,7 @@ texts_of_all_three files file other last bytes more rest long is is' is'' same s
 
 -- A reply of which something is true, and its lines and status.
 pub IfOk-with : {R E : Type 0} (IsTrueOf : R → Type 0) (lines_of : R → List (List ℕ)) (status_of : R → Status) (reply : R) (result : Result Report E)
-    → IsTrueOf reply → IfOk result (λ report. report_lines report ≡ lines_of reply)
+    → IsTrueOf reply → IfOk result (λ report. IsWrittenAs report.body (lines_of reply))
     → IfOk result (λ report. report.status ≡ status_of reply) → IfOk result (IsReportWith IsTrueOf lines_of status_of)
 IfOk-with IsTrueOf lines_of status_of reply (Ok report) is lines status =
     record { reply = reply; is_true = is; lines = lines; status = status }

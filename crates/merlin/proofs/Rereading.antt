@@ -24,6 +24,7 @@ use Rattle.merlin.specs.Unwire.{UnwireForm, IsLineOfRule, BeginsWithMessages, Ha
 use Rattle.merlin.proofs.Compiling.{of_two}
 use Rattle.merlin.proofs.OneTrace.{KnownNetworks}
 use Rattle.merlin.proofs.Tracing.{one_bearer}
+use Rattle.merlin.proofs.Unwiring.{lines_of_rules}
 
 -- Digits have no newline in them.
 
@@ -165,25 +166,25 @@ module _ (known : KnownNetworks) (lawful : (bytes : List ℕ) (net : Network) �
       let nets : h.net ≡ net = known.one topology h.net net h.is_network is in
       let switches = same_switch net h.net switch h.switch is nets named h.is_switch in
       absurd (all_messages switch messages rules all number at (subst (λ s. HasNoMessage s messages number at) switches h.holds))
-  Unwires-read net switch rules is named all (unwire.Written lines) h =
+  Unwires-read net switch rules is named all (unwire.Written over config) h =
       let nets : h.net ≡ net = known.one topology h.net net h.is_network is in
       let switches = same_switch net h.net switch h.switch is nets named h.is_switch in
       let same = same_rules switch messages rules all h.holds.rules (subst (λ s. BeginsWithMessages s messages h.holds.rules []) switches h.holds.all) in
-      (refl, h.holds.written ∙ (λ i. rule_lines (nets i) (sym same i)))
+      (refl, lines_of_rules messages over config h.net h.switch h.holds ∙ (λ i. rule_lines (nets i) (sym same i)))
 
   against_refused : (s : UnwireReply) → unwire_status s ≡ status.Refused → Unwires form topology messages s → (r : UnwireReply) → Unwires form topology messages r → unwire_status s ≡ unwire_status r
   against_refused s e k (unwire.BadTopology fault) h = e
   against_refused s e k (unwire.UnknownSwitch name) h = e
   against_refused s e k (unwire.NoDigits number) h = e
   against_refused s e k (unwire.BadMessage number at) h = e
-  against_refused s e k (unwire.Written lines) h = (Unwires-read h.net h.switch h.holds.rules h.is_network h.is_switch h.holds.all s k).0
+  against_refused s e k (unwire.Written over config) h = (Unwires-read h.net h.switch h.holds.rules h.is_network h.is_switch h.holds.all s k).0
 
   Unwires-one : (r s : UnwireReply) → Unwires form topology messages r → Unwires form topology messages s → unwire_status s ≡ unwire_status r
   Unwires-one r (unwire.BadTopology fault) h k = against_refused (unwire.BadTopology fault) refl k r h
   Unwires-one r (unwire.UnknownSwitch name) h k = against_refused (unwire.UnknownSwitch name) refl k r h
   Unwires-one r (unwire.NoDigits number) h k = against_refused (unwire.NoDigits number) refl k r h
   Unwires-one r (unwire.BadMessage number at) h k = against_refused (unwire.BadMessage number at) refl k r h
-  Unwires-one r (unwire.Written lines) h k = sym (Unwires-read k.net k.switch k.holds.rules k.is_network k.is_switch k.holds.all r h).0
+  Unwires-one r (unwire.Written over config) h k = sym (Unwires-read k.net k.switch k.holds.rules k.is_network k.is_switch k.holds.all r h).0
 
 pub IsUnwireReply-unwires : (form : UnwireForm) (t b : List ℕ) (r : UnwireReply) → IsUnwireReply form (t ∷ b ∷ []) r → Unwires form t b r
 IsUnwireReply-unwires form t b r (x, y, e, h) = of_two (λ u v. Unwires form u v r) (t ∷ b ∷ []) t b x y refl e h

@@ -1,13 +1,11 @@
 -- Messages that are written are read back.
-use Rattle.std.proofs.Common.{◌≡◌, ◌≤◌, ◌<◌, ◌+◌, ◌==◌, ◌^◌, ℕ, zero, suc, Bool, true, false, cond, List, [], ◌∷◌, ◌++◌, length, filter, Result, Ok, refl, sym, ◌∙◌, ap, subst, arith, append-nil}
-use Rattle.std.specs.Prelude.{slice_index}
+use Rattle.std.proofs.Common.{◌≡◌, ◌≤◌, ◌<◌, ◌+◌, ◌==◌, ◌^◌, ℕ, zero, suc, Bool, true, false, cond, List, [], ◌∷◌, ◌++◌, length, refl, sym, ◌∙◌, ap, subst, arith, append-nil}
 use Rattle.std.specs.List.{AllByRecursion, AllZip, flat_map}
 use Rattle.std.specs.Int.{bytes_high_first}
-use Rattle.hex.specs.Hex.{encode_lower, decode_of, IsBytes}
+use Rattle.hex.specs.Hex.{encode_lower, IsBytes}
 use Rattle.hex.proofs.HexLemmas.{decode_of-encode_lower}
 use Rattle.merlin_base.specs.Texts.{joined}
 use Rattle.merlin_base.specs.declared.status.Status.TheVariants as status
-use Rattle.merlin_model.specs.declared.config.Action.{Action}
 use Rattle.merlin_model.specs.declared.config.Rule.{Rule}
 use Rattle.merlin_model.specs.Networks.{Network, IsNetwork}
 use Rattle.config_text.specs.Words.{line}
@@ -137,23 +135,24 @@ module _ (known : KnownNetworks) (lawful : (bytes : List ℕ) (net : Network) �
   Wires-written net read switch texts named (wire.UnknownSwitch name) h =
       let nets : net ≡ h.net = known.one topology net h.net texts.is_network h.texts.is_network in
       absurd (h.none switch (subst (λ n. IsSwitchNamed n form.switch switch) nets named))
-  Wires-written net read switch texts named (wire.Written lines) h =
+  Wires-written net read switch texts named (wire.Written place rules) h =
       let nets : h.net ≡ net = known.one topology h.net net h.texts.is_network texts.is_network in
       let reads : h.read ≡ read = result_once net (lawful topology net texts.is_network) result h.read read (subst (λ n. IsTextOfResult n result h.read) nets h.texts.is_result) texts.is_result in
-      let switches : h.switch ≡ switch = one_bearer net form.switch h.switch switch (lawful topology net texts.is_network) (subst (λ n. BearsName n form.switch h.switch) nets h.is_switch.0) named.0 in
-      (refl, h.written ∙ (λ i. message_lines 1 (rules_at (switches i) (reads i).config.rules)))
+      let switches : place ≡ switch = one_bearer net form.switch place switch (lawful topology net texts.is_network) (subst (λ n. BearsName n form.switch place) nets h.is_switch.0) named.0 in
+      let same : rules ≡ read.config.rules = h.are ∙ ap (λ r. r.config.rules) reads in
+      (refl, (λ i. message_lines 1 (rules_at (switches i) (same i))))
 
   against_refused : (s : WireReply) → wire_status s ≡ status.Refused → Wires form topology result s → (r : WireReply) → Wires form topology result r → wire_status s ≡ wire_status r
   against_refused s e k (wire.BadTopology fault) h = e
   against_refused s e k (wire.BadResult at) h = e
   against_refused s e k (wire.UnknownSwitch name) h = e
-  against_refused s e k (wire.Written lines) h = (Wires-written h.net h.read h.switch h.texts h.is_switch s k).0
+  against_refused s e k (wire.Written place rules) h = (Wires-written h.net h.read place h.texts h.is_switch s k).0
 
   Wires-one : (r s : WireReply) → Wires form topology result r → Wires form topology result s → wire_status s ≡ wire_status r
   Wires-one r (wire.BadTopology fault) h k = against_refused (wire.BadTopology fault) refl k r h
   Wires-one r (wire.BadResult at) h k = against_refused (wire.BadResult at) refl k r h
   Wires-one r (wire.UnknownSwitch name) h k = against_refused (wire.UnknownSwitch name) refl k r h
-  Wires-one r (wire.Written lines) h k = sym (Wires-written k.net k.read k.switch k.texts k.is_switch r h).0
+  Wires-one r (wire.Written place rules) h k = sym (Wires-written k.net k.read place k.texts k.is_switch r h).0
 
 pub IsWireReply-wires : (form : WireForm) (t b : List ℕ) (r : WireReply) → IsWireReply form (t ∷ b ∷ []) r → Wires form t b r
 IsWireReply-wires form t b r (x, y, e, h) = of_two (λ u v. Wires form u v r) (t ∷ b ∷ []) t b x y refl e h

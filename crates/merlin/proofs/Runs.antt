@@ -33,7 +33,9 @@ use Rattle.merlin.specs.declared.wire.WireReply.{WireReply}
 use Rattle.merlin.specs.declared.wire.WireReply.TheVariants as wire
 use Rattle.merlin.specs.declared.unwire.UnwireReply.{UnwireReply}
 use Rattle.merlin.specs.declared.unwire.UnwireReply.TheVariants as unwire
-use Rattle.merlin.specs.Wire.{WireForm, wire_files, wire_lines, wire_status, HasMessages, IsWireReply}
+use Rattle.merlin.specs.Wire.{WireForm, wire_files, wire_lines, wire_status, rules_at, message_lines, HasMessages, IsWireReply}
+use Rattle.config_text.specs.Lines.{config_lines}
+use Rattle.merlin.proofs.Unwiring.{has_rules}
 use Rattle.merlin.specs.Unwire.{UnwireForm, unwire_files, unwire_lines, unwire_status, HasSwitch, HasRules, IsUnwireReply}
 use Rattle.merlin.specs.Trace.{TraceForm, trace_files, trace_lines, trace_status, HasEnded, HasNoEnd, IsTraceReply}
 use Rattle.merlin.specs.Outcome.{World, Taking, IsReplied, IsOfRepliesAlone, SaysByStatus}
@@ -183,8 +185,15 @@ was_wired : (form : WireForm) (contents : List (List ℕ)) (reply : WireReply) �
 was_wired form contents (wire.BadTopology fault) means e = done_refused e
 was_wired form contents (wire.BadResult place) means e = done_refused e
 was_wired form contents (wire.UnknownSwitch name) means e = done_refused e
-was_wired form contents (wire.Written lines) (t, r, two, has) e =
-    record { first = t; second = r; two = two; told = lines.items; holds = has; is = refl }
+was_wired form contents (wire.Written switch rules) (t, r, two, has) e =
+    record {
+      first = t;
+      second = r;
+      two = two;
+      told = message_lines 1 (rules_at switch rules);
+      holds = record { net = has.net; read = has.read; texts = has.texts; switch = switch; is_switch = has.is_switch; written = ap (λ rs. message_lines 1 (rules_at switch rs)) has.are };
+      is = refl;
+    }
 
 was_unwired : (form : UnwireForm) (contents : List (List ℕ)) (reply : UnwireReply) → IsUnwireReply form contents reply
     → status.Done ≡ unwire_status reply → WasWritten contents (unwire_lines reply) (λ t m lines. HasSwitch form t (HasRules m lines))
@@ -192,8 +201,15 @@ was_unwired form contents (unwire.BadTopology fault) means e = done_refused e
 was_unwired form contents (unwire.UnknownSwitch name) means e = done_refused e
 was_unwired form contents (unwire.NoDigits number) means e = done_refused e
 was_unwired form contents (unwire.BadMessage number place) means e = done_refused e
-was_unwired form contents (unwire.Written lines) (t, m, two, has) e =
-    record { first = t; second = m; two = two; told = lines.items; holds = has; is = refl }
+was_unwired form contents (unwire.Written over config) (t, m, two, has) e =
+    record {
+      first = t;
+      second = m;
+      two = two;
+      told = config_lines over config;
+      holds = record { net = has.net; is_network = has.is_network; switch = has.switch; is_switch = has.is_switch; holds = has_rules m over config has.net has.switch has.holds };
+      is = refl;
+    }
 
 -- The same of a run.
 

@@ -1,6 +1,5 @@
 -- What the command `unwire` replies.
-use Rattle.std.proofs.Common.{◌≡◌, ◌≢◌, ◌≤◌, ◌<◌, ◌+◌, ◌==◌, ℕ, Bool, true, false, inl, inr, ◌⊎◌, List, [], ◌∷◌, ◌++◌, length, refl, sym, ◌∙◌, ap, subst, arith, append_assoc, append-nil, Result, Ok, Err, IfOk, IfErr}
-use Rattle.std.proofs.lemmas.List.{append_cancel_left}
+use Rattle.std.proofs.Common.{◌≡◌, ◌≢◌, ◌<◌, ◌+◌, ◌==◌, ℕ, Bool, false, inl, inr, ◌⊎◌, List, [], ◌∷◌, ◌++◌, length, refl, sym, ◌∙◌, ap, subst, arith, append_assoc, append-nil, Result, Ok, Err, IfOk}
 use Rattle.std.specs.List.{All, AllByRecursion, AllZip, flat_map}
 use Rattle.std.proofs.lemmas.List.Elements.{All-from_recursion}
 use Rattle.std.specs.Prelude.{Some}
@@ -17,11 +16,12 @@ use Rattle.openflow_wire.specs.Layout.{IsWireFault}
 use Rattle.openflow_wire.specs.declared.reading.WireFault.{WireFault}
 use Rattle.openflow_wire.specs.declared.reading.WireFault.TheVariants.{BadMessage as Bad}
 use Rattle.topology_rules.specs.Faults.{IsTopology}
-use Rattle.merlin.specs.Unwire.{UnwireForm, IsLineOfRule, BeginsWithMessages, HasNoDigits, HasNoMessage, HasRules, Unwires}
+use Rattle.merlin.specs.Unwire.{UnwireForm, IsLineOfRule, BeginsWithMessages, HasRules, rules_alone, HasConfigOf, HasConfigOver, Unwires}
 use Rattle.merlin.specs.Wire.{IsSwitchNamed}
 use Rattle.merlin_base.specs.Lexemes.{Lacks}
 use Rattle.merlin_base.proofs.Cutting.{free, cut_once}
-use Rattle.merlin.specs.Messages.{IsDigitsFault, IsLineBefore, BeginsWrong, IsFaultBefore, IsFaultIn, Unwired}
+use Rattle.merlin.proofs.Tracing.{location_within}
+use Rattle.merlin.specs.Messages.{IsDigitsFault, IsLineBefore, IsFaultBefore, IsFaultIn, Unwired}
 use Rattle.merlin.specs.declared.unwire.DigitsFault.{DigitsFault}
 use Rattle.merlin.specs.declared.unwire.DigitsFault.TheVariants as faults
 use Rattle.merlin.specs.declared.unwire.UnwireReply.{UnwireReply}
@@ -110,10 +110,10 @@ all_at net switch (d ∷ digits) (r ∷ rules) within all =
 pub rules_within : (net : Network) (switch : ℕ) (text : List ℕ) (rules : List Rule) (rest : List ℕ) → switch < length net.locations → BeginsWithMessages switch text rules rest → All (λ rule. rule.loc < length net.locations) rules
 rules_within net switch text rules rest within b = All-from_recursion (λ rule. rule.loc < length net.locations) rules (all_at net switch b.digits rules within b.each)
 
-pub only_rules : (net : Network) (rules : List Rule) → config_lines net (record { rules = rules; processes = []; queues = []; hosts = [] }) ≡ rule_lines net rules
+pub only_rules : (net : Network) (rules : List Rule) → config_lines net (rules_alone rules) ≡ rule_lines net rules
 only_rules net rules = append-nil _ ∙ append-nil _ ∙ append-nil _
 
-pub only_rules_over : (net : Network) (rules : List Rule) → All (λ rule. rule.loc < length net.locations) rules → IsConfigOver net (record { rules = rules; processes = []; queues = []; hosts = [] })
+pub only_rules_over : (net : Network) (rules : List Rule) → All (λ rule. rule.loc < length net.locations) rules → IsConfigOver net (rules_alone rules)
 only_rules_over net rules all = record {
   rules = all;
   processes = All-from_recursion _ [] tt;
@@ -122,13 +122,30 @@ only_rules_over net rules all = record {
   hosts = All-from_recursion _ [] tt;
 }
 
+-- what is written of a configuration of rules
+pub lines_of_rules : (messages : List ℕ) (over : Network) (config : Config) (net : Network) (switch : ℕ) (h : HasConfigOf messages over config net switch) → config_lines over config ≡ rule_lines net h.rules
+lines_of_rules messages over config net switch h = (λ i. config_lines (h.over_is i) (h.config_is i)) ∙ only_rules net h.rules
+
+pub has_rules : (messages : List ℕ) (over : Network) (config : Config) (net : Network) (switch : ℕ) → HasConfigOf messages over config net switch → HasRules messages (config_lines over config) net switch
+has_rules messages over config net switch h = record { rules = h.rules; all = h.all; written = lines_of_rules messages over config net switch h }
+
+pub config_over : (form : UnwireForm) (topology messages : List ℕ) (reply : UnwireReply) → Unwires form topology messages reply → HasConfigOver reply
+config_over form topology messages (replies.BadTopology fault) h = tt
+config_over form topology messages (replies.UnknownSwitch name) h = tt
+config_over form topology messages (replies.NoDigits number) h = tt
+config_over form topology messages (replies.BadMessage number at) h = tt
+config_over form topology messages (replies.Written over config) h =
+    let within = location_within h.net form.switch h.switch h.is_switch.0 in
+    subst (λ n. IsConfigOver n config) (sym h.holds.over_is) (subst (IsConfigOver h.net) (sym h.holds.config_is)
+    (only_rules_over h.net h.holds.rules (rules_within h.net h.switch messages h.holds.rules [] within h.holds.all)))
+
 -- From what is replied to messages to the reply.
 reply_over : (form : UnwireForm) (topology messages : List ℕ) (net : Network) (switch : ℕ) (reply : UnwireReply) → IsTopology topology net → IsSwitchNamed net form.switch switch → Unwired net switch messages reply → Unwires form topology messages reply
 reply_over form topology messages net switch (replies.BadTopology fault) is named h = absurd h
 reply_over form topology messages net switch (replies.UnknownSwitch name) is named h = absurd h
 reply_over form topology messages net switch (replies.NoDigits number) is named h = record { net = net; is_network = is; switch = switch; is_switch = named; holds = h }
 reply_over form topology messages net switch (replies.BadMessage number at) is named h = record { net = net; is_network = is; switch = switch; is_switch = named; holds = h }
-reply_over form topology messages net switch (replies.Written lines) is named h = record { net = net; is_network = is; switch = switch; is_switch = named; holds = h }
+reply_over form topology messages net switch (replies.Written over config) is named h = record { net = net; is_network = is; switch = switch; is_switch = named; holds = h }
 
 pub IfOk-over : {E : Type 0} (form : UnwireForm) (topology messages : List ℕ) (net : Network) (switch : ℕ) (result : Result UnwireReply E) → IsTopology topology net → IsSwitchNamed net form.switch switch
     → IfOk result (Unwired net switch messages) → IfOk result (Unwires form topology messages)

@@ -1,5 +1,5 @@
 -- What the command `wire` replies.
-use Rattle.std.proofs.Common.{◌≡◌, ◌≢◌, ◌≤◌, ◌<◌, ◌+◌, ◌/◌, ◌%◌, ◌^◌, ◌==◌, ◌⊎◌, inl, inr, ℕ, suc, Bool, cond, true, false, List, [], ◌∷◌, ◌++◌, length, get_or, refl, sym, ◌∙◌, ap, subst, arith, option_map, filter, append_assoc}
+use Rattle.std.proofs.Common.{◌≡◌, ◌≢◌, ◌≤◌, ◌<◌, ◌+◌, ◌/◌, ◌%◌, ◌^◌, ◌⊎◌, inl, inr, ℕ, List, [], ◌∷◌, ◌++◌, length, get_or, refl, sym, ◌∙◌, ap, subst, arith, option_map}
 use Rattle.std.specs.Prelude.{Option, Some, None, IfSome}
 use Rattle.std.specs.List.{All, AllByRecursion}
 use Rattle.std.specs.String.{string_bytes}
@@ -24,7 +24,7 @@ use Rattle.merlin_model.specs.declared.network.Place.{Place}
 use Rattle.merlin_model.specs.declared.network.Place.TheVariants as places
 use Rattle.merlin_model.specs.Networks.{Network, IsNetwork, IsSwitch, kind_of}
 use Rattle.topology.specs.Look.{place_of_kind, place_at}
-use Rattle.config_lines.specs.Words.{IsLimited, IsOptional}
+use Rattle.config_lines.specs.Words.{IsOptional}
 use Rattle.config_lines.specs.Parts.{IsLineVlan, IsLineMatch, IsLineOut, IsTagging, IsSending, AreLineActions}
 use Rattle.config_lines.specs.Lines.{IsRuleLine}
 use Rattle.config_read.specs.declared.result.Head.{Head}
@@ -32,12 +32,14 @@ use Rattle.config_read.specs.declared.result.Head.TheVariants.{Least, Infeasible
 use Rattle.config_read.specs.declared.result.ResultText.{ResultText}
 use Rattle.config_read.specs.Results.{IsConfigOf}
 use Rattle.config_read.specs.Answers.{IsTextOfResult}
-use Rattle.openflow_wire.specs.declared.numbers.Number.TheVariants.{Byte, Short, Word}
+use Rattle.openflow_wire.specs.declared.numbers.Number.TheVariants.{Byte, Short}
 use Rattle.openflow_wire.specs.Fields.{number_bytes, bytes_of}
-use Rattle.openflow_wire.specs.Messages.{actions_bytes, match_numbers, header_numbers, message_of}
+use Rattle.openflow_wire.specs.Messages.{actions_bytes, header_numbers, message_of}
 use Rattle.openflow_wire.specs.Rules.{IsOut, IsVlan, IsMatch, ChangesTag, Sends, AreActions, IsRule}
 use Rattle.merlin.specs.Inputs.{BearsName}
-use Rattle.merlin.specs.Wire.{IsSwitchNamed, rules_at, message_line, message_lines}
+use Rattle.merlin.specs.Wire.{WireForm, IsSwitchNamed, Wires, HaveMessages}
+use Rattle.merlin.specs.declared.wire.WireReply.{WireReply}
+use Rattle.merlin.specs.declared.wire.WireReply.TheVariants as wire
 use Rattle.merlin.proofs.Tracing.{one_bearer}
 
 -- Four words.
@@ -140,6 +142,12 @@ have_rules net bytes read is = config_has net read.head read.config is.is.config
 pub have_messages : (net : Network) (bytes : List ℕ) (read : ResultText) → IsTextOfResult net bytes read → All IsRule read.config.rules
 have_messages net bytes read is = All-from_recursion IsRule read.config.rules (config_has net read.head read.config is.is.config)
 
+pub have_alone : (form : WireForm) (topology result : List ℕ) (reply : WireReply) → Wires form topology result reply → HaveMessages reply
+have_alone form topology result (wire.BadTopology fault) h = tt
+have_alone form topology result (wire.BadResult at) h = tt
+have_alone form topology result (wire.UnknownSwitch name) h = tt
+have_alone form topology result (wire.Written switch rules) h = subst (All IsRule) (sym h.are) (have_messages h.net result h.read h.texts.is_result)
+
 -- A message has 32 bits for its number.
 
 word_wraps : (n : ℕ) → bytes_high_first 4 (n % 4294967296) ≡ bytes_high_first 4 n
@@ -167,44 +175,3 @@ message_wraps rule n =
     later : {X : Type 0} → List X → List X
     later (a ∷ b ∷ c ∷ d ∷ xs) = xs
     later xs = xs
-
--- Lines of messages.
-
-lines_push : (n : ℕ) (rules : List Rule) (rule : Rule) → message_lines n (rules ++ rule ∷ []) ≡ message_lines n rules ++ message_line rule (n + length rules) ∷ []
-lines_push n [] rule = ap (λ k. message_line rule k ∷ []) (let e : n ≡ n + 0 = omega arith in e)
-lines_push n (r ∷ rules) rule =
-    ap (λ ls. message_line r n ∷ ls) (lines_push (n + 1) rules rule ∙ ap (λ k. message_lines (n + 1) rules ++ message_line rule k ∷ []) (let e : n + 1 + length rules ≡ n + length (r ∷ rules) = omega arith in e))
-
-pub lines_length : (n : ℕ) (rules : List Rule) → length (message_lines n rules) ≡ length rules
-lines_length n [] = refl
-lines_length n (r ∷ rules) = ap suc (lines_length (n + 1) rules)
-
-pub one_more_line : (lines : List (List ℕ)) (rules : List Rule) (rule : Rule) (text : List ℕ) (number : ℕ) → lines ≡ message_lines 1 rules → number ≡ length lines + 1 → text ≡ message_line rule number → lines ++ text ∷ [] ≡ message_lines 1 (rules ++ rule ∷ [])
-one_more_line lines rules rule text number e count same =
-    (λ i. e i ++ (same ∙ ap (message_line rule) (count ∙ ap (λ ls. length ls + 1) e ∙ ap (λ k. k + 1) (lines_length 1 rules) ∙ (let h : length rules + 1 ≡ 1 + length rules = omega arith in h))) i ∷ []) ∙ sym (lines_push 1 rules rule)
-
--- a rule at the switch, and one at another
-
-at_push : (switch : ℕ) (rules : List Rule) (rule : Rule) → (rule.loc == switch) ≡ true → rules_at switch (rules ++ rule ∷ []) ≡ rules_at switch rules ++ rule ∷ []
-at_push switch [] rule e = ap (λ b. cond b (rule ∷ []) []) e
-at_push switch (r ∷ rules) rule e = by (r.loc == switch) (at_push switch rules rule e)
-  where
-    by : (b : Bool) → rules_at switch (rules ++ rule ∷ []) ≡ rules_at switch rules ++ rule ∷ [] → cond b (r ∷ rules_at switch (rules ++ rule ∷ [])) (rules_at switch (rules ++ rule ∷ [])) ≡ cond b (r ∷ rules_at switch rules) (rules_at switch rules) ++ rule ∷ []
-    by true later = ap (λ rs. r ∷ rs) later
-    by false later = later
-
-elsewhere_push : (switch : ℕ) (rules : List Rule) (rule : Rule) → (rule.loc == switch) ≡ false → rules_at switch (rules ++ rule ∷ []) ≡ rules_at switch rules
-elsewhere_push switch [] rule e = ap (λ b. cond b (rule ∷ []) []) e
-elsewhere_push switch (r ∷ rules) rule e = by (r.loc == switch) (elsewhere_push switch rules rule e)
-  where
-    by : (b : Bool) → rules_at switch (rules ++ rule ∷ []) ≡ rules_at switch rules → cond b (r ∷ rules_at switch (rules ++ rule ∷ [])) (rules_at switch (rules ++ rule ∷ [])) ≡ cond b (r ∷ rules_at switch rules) (rules_at switch rules)
-    by true later = ap (λ rs. r ∷ rs) later
-    by false later = later
-
-pub line_at : (switch : ℕ) (rules : List Rule) (rule : Rule) (lines more : List (List ℕ)) (text : List ℕ) (number : ℕ) → (rule.loc == switch) ≡ true → lines ≡ message_lines 1 (rules_at switch rules) → number ≡ length lines + 1 → text ≡ message_line rule number
-    → more ≡ lines ++ text ∷ [] → more ≡ message_lines 1 (rules_at switch (rules ++ rule ∷ []))
-line_at switch rules rule lines more text number here e count same pushed =
-    pushed ∙ one_more_line lines (rules_at switch rules) rule text number e count same ∙ ap (message_lines 1) (sym (at_push switch rules rule here))
-
-pub no_line : (switch : ℕ) (rules : List Rule) (rule : Rule) (lines : List (List ℕ)) → (rule.loc == switch) ≡ false → lines ≡ message_lines 1 (rules_at switch rules) → lines ≡ message_lines 1 (rules_at switch (rules ++ rule ∷ []))
-no_line switch rules rule lines here e = e ∙ ap (message_lines 1) (sym (elsewhere_push switch rules rule here))

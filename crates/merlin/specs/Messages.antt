@@ -10,7 +10,7 @@ use Rattle.merlin.specs.declared.unwire.DigitsFault.TheVariants as faults
 use Rattle.merlin.specs.declared.unwire.MessageFault.{MessageFault}
 use Rattle.merlin.specs.declared.unwire.UnwireReply.{UnwireReply}
 use Rattle.merlin.specs.declared.unwire.UnwireReply.TheVariants.{BadTopology, UnknownSwitch, NoDigits, BadMessage, Written}
-use Rattle.merlin.specs.Unwire.{IsLineOfRule, HasNoDigits, HasNoMessage, HasRules}
+use Rattle.merlin.specs.Unwire.{IsLineOfRule, HasNoDigits, HasNoMessage, HasConfigOf}
 
 -- why digits are no message of a rule
 abbrev pub IsDigitsFault : List ℕ → DigitsFault → Type 0
@@ -56,4 +56,4 @@ Unwired net switch messages (BadTopology fault) = ⊥
 Unwired net switch messages (UnknownSwitch name) = ⊥
 Unwired net switch messages (NoDigits number) = HasNoDigits switch messages number
 Unwired net switch messages (BadMessage number at) = HasNoMessage switch messages number at
-Unwired net switch messages (Written lines) = HasRules messages lines.items net switch
+Unwired net switch messages (Written over config) = HasConfigOf messages over config net switch

@@ -1,5 +1,5 @@
 -- The command `unwire`.
-use Rattle.std.specs.Prelude.{◌≡◌, ◌≢◌, ◌++◌, ◌+◌, ℕ, List, [], ◌∷◌, length, Ok, Some, codes}
+use Rattle.std.specs.Prelude.{◌≡◌, ◌≢◌, ◌++◌, ◌+◌, ℕ, ⊤, List, [], ◌∷◌, length, Ok, Some, codes}
 use Rattle.std.specs.List.{AllZip, flat_map}
 use Rattle.std.specs.Fmt.{decimal}
 use Rattle.hex.specs.Hex.{decode_of}
@@ -7,11 +7,11 @@ use Rattle.merlin_base.specs.Lexemes.{Lacks}
 use Rattle.merlin_base.specs.declared.status.Status.{Status}
 use Rattle.merlin_base.specs.declared.status.Status.TheVariants as status
 use Rattle.merlin_model.specs.declared.config.Rule.{Rule}
+use Rattle.merlin_model.specs.declared.config.Config.{Config}
 use Rattle.merlin_model.specs.Networks.{Network}
 use Rattle.config_text.specs.Words.{line}
-use Rattle.config_text.specs.Lines.{rule_lines}
+use Rattle.config_text.specs.Lines.{rule_lines, config_lines, IsConfigOver}
 use Rattle.openflow_wire.specs.Messages.{message_fault, IsMessage}
-use Rattle.topology_rules.specs.declared.fault.NetFault.{NetFault}
 use Rattle.topology_rules.specs.Faults.{IsTopology}
 use Rattle.merlin.specs.Inputs.{IsWrongTopology, wrong_topology_lines}
 use Rattle.merlin.specs.Wire.{IsSwitchNamed, unknown_switch_lines}
@@ -104,6 +104,18 @@ pub record HasRules (messages : List ℕ) (lines : List (List ℕ)) (net : Netwo
   pub all : BeginsWithMessages switch messages rules []
   pub written : lines ≡ rule_lines net rules
 
+-- a configuration of rules alone
+abbrev pub rules_alone : List Rule → Config
+rules_alone rules = record { rules = rules; processes = []; queues = []; hosts = [] }
+
+-- all bytes are lines of messages, and the configuration over the same network is that of their rules
+pub record HasConfigOf (messages : List ℕ) (over : Network) (config : Config) (net : Network)
+    (switch : ℕ) : Type 0 where
+  pub rules : List Rule
+  pub all : BeginsWithMessages switch messages rules []
+  pub over_is : over ≡ net
+  pub config_is : config ≡ rules_alone rules
+
 -- The topology is looked at first, then the word for the switch, then the messages.
 abbrev pub Unwires : UnwireForm → List ℕ → List ℕ → UnwireReply → Type 0
 Unwires form topology messages (BadTopology fault) = IsWrongTopology topology fault
@@ -112,8 +124,8 @@ Unwires form topology messages (NoDigits number) =
     HasSwitch form topology (λ net switch. HasNoDigits switch messages number)
 Unwires form topology messages (BadMessage number at) =
     HasSwitch form topology (λ net switch. HasNoMessage switch messages number at)
-Unwires form topology messages (Written lines) =
-    HasSwitch form topology (HasRules messages lines.items)
+Unwires form topology messages (Written over config) =
+    HasSwitch form topology (HasConfigOf messages over config)
 
 abbrev pub IsUnwireReply : UnwireForm → List (List ℕ) → UnwireReply → Type 0
 IsUnwireReply form contents reply = (topology messages : List ℕ)
@@ -133,11 +145,19 @@ unwire_lines (BadTopology fault) = wrong_topology_lines fault
 unwire_lines (UnknownSwitch name) = unknown_switch_lines name
 unwire_lines (NoDigits number) = line (no_digits_text number) ∷ []
 unwire_lines (BadMessage number at) = line (bad_message_text number at) ∷ []
-unwire_lines (Written lines) = lines.items
+unwire_lines (Written net config) = config_lines net config
+
+-- the configuration of the reply names locations of its network
+abbrev pub HasConfigOver : UnwireReply → Type 0
+HasConfigOver (BadTopology fault) = ⊤
+HasConfigOver (UnknownSwitch name) = ⊤
+HasConfigOver (NoDigits number) = ⊤
+HasConfigOver (BadMessage number at) = ⊤
+HasConfigOver (Written net config) = IsConfigOver net config
 
 abbrev pub unwire_status : UnwireReply → Status
 unwire_status (BadTopology fault) = status.Refused
 unwire_status (UnknownSwitch name) = status.Refused
 unwire_status (NoDigits number) = status.Refused
 unwire_status (BadMessage number at) = status.Refused
-unwire_status (Written lines) = status.Done
+unwire_status (Written net config) = status.Done

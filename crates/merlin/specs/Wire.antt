@@ -1,5 +1,6 @@
 -- The command `wire`.
-use Rattle.std.specs.Prelude.{◌≡◌, ◌++◌, ◌+◌, ◌==◌, ℕ, List, [], ◌∷◌, filter, codes}
+use Rattle.std.specs.Prelude.{◌≡◌, ◌++◌, ◌+◌, ◌==◌, ℕ, ⊤, List, [], ◌∷◌, filter, codes}
+use Rattle.std.specs.List.{All}
 use Rattle.hex.specs.Hex.{encode_lower}
 use Rattle.merlin_base.specs.declared.status.Status.{Status}
 use Rattle.merlin_base.specs.declared.status.Status.TheVariants as status
@@ -8,7 +9,7 @@ use Rattle.merlin_model.specs.Networks.{Network, IsSwitch}
 use Rattle.config_text.specs.Words.{line}
 use Rattle.config_read.specs.declared.result.ResultText.{ResultText}
 use Rattle.openflow_wire.specs.Messages.{message_of}
-use Rattle.topology_rules.specs.declared.fault.NetFault.{NetFault}
+use Rattle.openflow_wire.specs.Rules.{IsRule}
 use Rattle.merlin.specs.Inputs.{IsWrongTopology, HasWrongResult, AreNetworkAndResult, BearsName, wrong_topology_lines, wrong_result_lines}
 use Rattle.merlin.specs.declared.reading.TheConstants.{TEXT_LIMIT, RESULT_LIMIT}
 use Rattle.merlin.specs.declared.wire.Wire.{Wire}
@@ -75,12 +76,22 @@ pub record HasMessages (form : WireForm) (topology result : List ℕ) (lines : L
   pub is_switch : IsSwitchNamed net form.switch switch
   pub written : lines ≡ message_lines 1 (rules_at switch read.config.rules)
 
+-- The switch bears the name, and these are all rules of the result.
+pub record HasRulesAtSwitch (form : WireForm) (topology result : List ℕ) (switch : ℕ) (rules : List Rule)
+    : Type 0 where
+  pub net : Network
+  pub read : ResultText
+  pub texts : AreNetworkAndResult topology result net read
+  pub is_switch : IsSwitchNamed net form.switch switch
+  pub are : rules ≡ read.config.rules
+
 -- The topology is looked at first, then the result, then the word for the switch.
 abbrev pub Wires : WireForm → List ℕ → List ℕ → WireReply → Type 0
 Wires form topology result (BadTopology fault) = IsWrongTopology topology fault
 Wires form topology result (BadResult at) = HasWrongResult topology result at
 Wires form topology result (UnknownSwitch name) = HasUnknownSwitch form topology result name
-Wires form topology result (Written lines) = HasMessages form topology result lines.items
+Wires form topology result (Written switch rules) =
+    HasRulesAtSwitch form topology result switch rules
 
 abbrev pub IsWireReply : WireForm → List (List ℕ) → WireReply → Type 0
 IsWireReply form contents reply = (topology result : List ℕ)
@@ -95,10 +106,17 @@ abbrev pub wire_lines : WireReply → List (List ℕ)
 wire_lines (BadTopology fault) = wrong_topology_lines fault
 wire_lines (BadResult at) = wrong_result_lines at
 wire_lines (UnknownSwitch name) = unknown_switch_lines name
-wire_lines (Written lines) = lines.items
+wire_lines (Written switch rules) = message_lines 1 (rules_at switch rules)
+
+-- each rule of the reply has a message
+abbrev pub HaveMessages : WireReply → Type 0
+HaveMessages (BadTopology fault) = ⊤
+HaveMessages (BadResult at) = ⊤
+HaveMessages (UnknownSwitch name) = ⊤
+HaveMessages (Written switch rules) = All IsRule rules
 
 abbrev pub wire_status : WireReply → Status
 wire_status (BadTopology fault) = status.Refused
 wire_status (BadResult at) = status.Refused
 wire_status (UnknownSwitch name) = status.Refused
-wire_status (Written lines) = status.Done
+wire_status (Written switch rules) = status.Done

@@ -2,7 +2,9 @@
 ghost use Rattle.std.specs.Prelude.{◌≡◌, ◌≢◌, ℕ, length, IfOk, IfSome, IfNone};
 ghost use Rattle.config_text.specs.Result.{objective_word};
 ghost use Rattle.merlin_base.specs.declared.status.Status.TheVariants as status;
-ghost use Rattle.merlin_compile.specs.Written.{compiled_lines, IsCompiledFromSome};
+ghost use Rattle.merlin_compile.specs.Written.{solved_lines, partial_lines, compiled_lines};
+ghost use Rattle.merlin_compile.specs.Written.{IsSolvedFromSome, IsPartialFromSome, IsCompiledFromSome};
+ghost use Rattle.result_heads.specs.Heads.{infeasible_lines};
 ghost use Rattle.merlin.specs.Words.{word_texts};
 ghost use Rattle.merlin.specs.Reading.{files_wanted, texts_read};
 ghost use Rattle.merlin.specs.Compile.{CompileForm, IsBudget, IsInBudget, IsCompileForm, compile_form};
@@ -10,14 +12,17 @@ ghost use Rattle.merlin.specs.Compile.{compile_files, Compiles, compile_lines};
 ghost use Rattle.merlin.specs.Compile.{IsCompileReply};
 ghost use Rattle.merlin.specs.Compile.{compile_status, compiled_status};
 ghost use Rattle.merlin.specs.Parts.{IsPrintable};
-ghost use Rattle.merlin.specs.Reports.{IsReportWith, report_lines};
+ghost use Rattle.merlin.specs.Reports.{IsReportWith, IsWrittenAs};
 
 use crate::reading::{TEXT_LIMIT, Wanted};
-use crate::report::{Report, named_line};
+use crate::report::{Report, ReportBody, named_line};
 use merlin_base::{OutOfMemory, Status, read_decimal};
-use merlin_compile::{CompileFault, Compiled, compile, compile_fault_text, compiled_head};
+use merlin_compile::{CompileFault, Compiled, Partial, Solved, compile, compile_fault_text};
+use merlin_compile::{partial_head, solved_head};
+use merlin_model::certificate::Tree;
 use merlin_model::limits::MAX_NODES;
 use merlin_model::policy::Objective;
+use result_heads::infeasible_head;
 use std::alloc::Global;
 
 /// The most nodes of a tree, where the words do not say.
@@ -136,14 +141,13 @@ fn compile_reply(
 // What is reported of a refusal.
 fn refused_report(alloc: Global, fault: &CompileFault) -> Result<Report, OutOfMemory>
     ensures lines { IfOk result (λ report.
-        report_lines report ≡ compile_lines (CompileReply.Refused fault.now)) }
+        IsWrittenAs report.body (compile_lines (CompileReply.Refused fault.now))) }
     ensures status { IfOk result (λ report. report.status ≡ status.Refused) }
 {
     let text = compile_fault_text(alloc, fault)?;
     let lines = named_line(alloc, "refused: ", &text)?;
     Ok(Report {
-        lines,
-        tree: None,
+        body: ReportBody::Lines(lines),
         status: Status::Refused,
     })
 }
@@ -158,24 +162,70 @@ fn status_of(compiled: &Compiled) -> Status
     }
 }
 
-// What is reported of a result: its lines, with the certificate last.
+// The parts of a least result.
+fn solved_body(alloc: Global, solved: Solved) -> Result<ReportBody, OutOfMemory>
+    requires { IsSolvedFromSome solved }
+    ensures { IfOk result (λ body. IsWrittenAs body (solved_lines solved)) }
+{
+    let head = solved_head(alloc, &solved)?;
+    Ok(ReportBody::Configured {
+        head,
+        net: solved.net,
+        config: solved.config,
+        tree: solved.tree,
+    })
+}
+
+// The parts of what says that no assignment is feasible.
+fn infeasible_body(
+    alloc: Global,
+    objective: Objective,
+    tree: Tree,
+) -> Result<ReportBody, OutOfMemory>
+    ensures { IfOk result (λ body. IsWrittenAs body (infeasible_lines objective tree)) }
+{
+    let head = infeasible_head(alloc, objective)?;
+    Ok(ReportBody::Certified { head, tree })
+}
+
+// The parts of what a spent budget leaves.
+fn partial_body(alloc: Global, partial: Partial) -> Result<ReportBody, OutOfMemory>
+    requires { IsPartialFromSome partial }
+    ensures { IfOk result (λ body. IsWrittenAs body (partial_lines partial)) }
+{
+    let head = partial_head(alloc, &partial)?;
+    Ok(ReportBody::Certified {
+        head,
+        tree: partial.tree,
+    })
+}
+
+// The parts of a result, with the certificate last.
+fn body_of(alloc: Global, compiled: Compiled) -> Result<ReportBody, OutOfMemory>
+    requires { IsCompiledFromSome compiled }
+    ensures { IfOk result (λ body. IsWrittenAs body (compiled_lines compiled)) }
+{
+    match compiled {
+        Compiled::Least(solved) => solved_body(alloc, solved),
+        Compiled::Infeasible { objective, tree } => infeasible_body(alloc, objective, tree),
+        Compiled::Budget(partial) => partial_body(alloc, partial),
+    }
+}
+
+// What is reported of a result.
 fn compiled_report(alloc: Global, compiled: Compiled) -> Result<Report, OutOfMemory>
     requires { IsCompiledFromSome compiled }
-    ensures lines { IfOk result (λ report. report_lines report ≡ compiled_lines compiled) }
+    ensures lines { IfOk result (λ report. IsWrittenAs report.body (compiled_lines compiled)) }
     ensures status { IfOk result (λ report. report.status ≡ compiled_status compiled) }
 {
-    let lines = compiled_head(alloc, &compiled)?;
     let status = status_of(&compiled);
-    Ok(Report {
-        lines,
-        tree: Some(compiled.into_tree()),
-        status,
-    })
+    let body = body_of(alloc, compiled)?;
+    Ok(Report { body, status })
 }
 
 fn report_on(alloc: Global, reply: CompileReply) -> Result<Report, OutOfMemory>
     requires { IsPrintable reply }
-    ensures lines { IfOk result (λ report. report_lines report ≡ compile_lines reply) }
+    ensures lines { IfOk result (λ report. IsWrittenAs report.body (compile_lines reply)) }
     ensures status { IfOk result (λ report. report.status ≡ compile_status reply) }
 {
     match reply {

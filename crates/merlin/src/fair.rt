@@ -4,13 +4,13 @@ ghost use Rattle.std.specs.Fmt.{decimal};
 ghost use Rattle.std.specs.String.{string_bytes};
 ghost use Rattle.merlin.specs.Words.{word_texts};
 ghost use Rattle.merlin.specs.Reading.{files_wanted, texts_read};
-ghost use Rattle.merlin.specs.Reports.{IsReportWith, report_lines};
+ghost use Rattle.merlin.specs.Reports.{IsReportWith, IsWrittenAs};
 ghost use Rattle.merlin.specs.Fair.{FairForm, IsFairForm, fair_form, fair_files};
 ghost use Rattle.merlin.specs.Fair.{AreBestLines, Divides, refused_demands_lines};
 ghost use Rattle.merlin.specs.Fair.{IsFairReply, fair_lines, fair_status};
 
 use crate::reading::{TEXT_LIMIT, Wanted};
-use crate::report::{Report, named_line, one_line};
+use crate::report::{Report, ReportBody, named_line, one_line};
 use fair_share::{DemandFault, Demands, divide, print_shares, read};
 use merlin_base::{Name, OutOfMemory, Status};
 use std::alloc::Global;
@@ -107,18 +107,16 @@ pub fn demand_fault_lines(alloc: Global, fault: &DemandFault) -> Result<Vec<Name
 
 // What is reported of a reply.
 fn report_on(alloc: Global, reply: FairReply) -> Result<Report, OutOfMemory>
-    ensures lines { IfOk result (λ report. report_lines report ≡ fair_lines reply) }
+    ensures lines { IfOk result (λ report. IsWrittenAs report.body (fair_lines reply)) }
     ensures status { IfOk result (λ report. report.status ≡ fair_status reply) }
 {
     match reply {
         FairReply::Refused(fault) => Ok(Report {
-            lines: demand_fault_lines(alloc, &fault)?,
-            tree: None,
+            body: ReportBody::Lines(demand_fault_lines(alloc, &fault)?),
             status: Status::Refused,
         }),
         FairReply::Divided(lines) => Ok(Report {
-            lines,
-            tree: None,
+            body: ReportBody::Lines(lines),
             status: Status::Done,
         }),
     }

@@ -3,14 +3,14 @@ ghost use Rattle.std.specs.Prelude.{◌≡◌, ℕ, List, length, IfOk, IfSome, 
 ghost use Rattle.fair_share.specs.Reading.{IsDemandsText};
 ghost use Rattle.merlin.specs.Words.{word_texts};
 ghost use Rattle.merlin.specs.Reading.{files_wanted, texts_read};
-ghost use Rattle.merlin.specs.Reports.{IsReportWith, report_lines};
+ghost use Rattle.merlin.specs.Reports.{IsReportWith, IsWrittenAs};
 ghost use Rattle.merlin.specs.Fairness.{FairnessForm, IsFairnessForm, fairness_form};
 ghost use Rattle.merlin.specs.Fairness.{fairness_files, AreReadAs, Judges};
 ghost use Rattle.merlin.specs.Fairness.{IsFairnessReply, fairness_lines, fairness_status};
 
 use crate::fair::demand_fault_lines;
 use crate::reading::{TEXT_LIMIT, Wanted};
-use crate::report::{Report, named_line, numbered_line, one_line};
+use crate::report::{Report, ReportBody, named_line, numbered_line, one_line};
 use fair_share::{DemandFault, Demands, Share, SharesFault, fair, read, read_shares};
 use merlin_base::{Name, OutOfMemory, Status};
 use std::alloc::Global;
@@ -135,13 +135,12 @@ fn status_of(reply: &FairnessReply) -> Status
 }
 
 fn report_on(alloc: Global, reply: &FairnessReply) -> Result<Report, OutOfMemory>
-    ensures lines { IfOk result (λ report. report_lines report ≡ fairness_lines reply.now) }
+    ensures lines { IfOk result (λ report. IsWrittenAs report.body (fairness_lines reply.now)) }
     ensures status { IfOk result (λ report. report.status ≡ fairness_status reply.now) }
 {
     let lines = lines_of(alloc, reply)?;
     Ok(Report {
-        lines,
-        tree: None,
+        body: ReportBody::Lines(lines),
         status: status_of(reply),
     })
 }

@@ -5,6 +5,7 @@ mod commands;
 mod compile;
 mod fair;
 mod fairness;
+mod handing;
 mod inputs;
 pub mod laws;
 mod program;

@@ -3,11 +3,12 @@ ghost use Rattle.std.specs.Prelude.{◌≡◌, IfOk};
 ghost use Rattle.merlin.specs.Words.{word_texts};
 ghost use Rattle.packet_trace.specs.Behaviours.{behaviour_by};
 ghost use Rattle.merlin.specs.Outcome.{IsOutcome, SaysByStatus, world_of, taking_of};
-ghost use Rattle.merlin.specs.Parts.{IsReportTo, EndsByResult};
+ghost use Rattle.merlin.specs.Parts.{IsReportTo, CanBeWritten, EndsByResult};
 ghost use Rattle.merlin.specs.Runs.{KeepsPromises};
 
 use crate::commands::{command_of, contents_for, report_over};
-use crate::report::{Report, unread_report, usage_report, write_report};
+use crate::handing::write_body;
+use crate::report::{Report, unread_report, usage_report};
 use merlin_base::{Files, OutOfMemory, OutsideFault, Sink, Status};
 use packet_model::Packet;
 use std::alloc::Global;
@@ -36,6 +37,7 @@ fn report_to<F: Files, A: Fn(&FnDecl, Packet) -> Packet + Drop>(
 
 // Hands the lines of a report to the sink. It answers how the run ends.
 fn hand_over<K: Sink>(alloc: Global, out: &mut K, report: &Result<Report, OutOfMemory>) -> Status
+    requires { CanBeWritten report.now }
     ensures { let sink = taking_of (K.faults out.old) (K.faults out.new)
         (K.taken out.old) (K.taken out.new) in
         EndsByResult sink report.now result }
@@ -43,7 +45,7 @@ fn hand_over<K: Sink>(alloc: Global, out: &mut K, report: &Result<Report, OutOfM
     let Ok(report) = report else {
         return Status::Memory;
     };
-    match write_report(alloc, out, report) {
+    match write_body(alloc, out, &report.body) {
         Ok(()) => report.status,
         Err(OutsideFault::Failed) => Status::WriteFault,
         Err(OutsideFault::OutOfMemory) => Status::Memory,

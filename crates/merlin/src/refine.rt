@@ -12,16 +12,16 @@ ghost use Rattle.merlin.specs.Refine.{RefineForm, IsRefineForm, refine_form, ref
 ghost use Rattle.merlin.specs.Refine.{ArePolicyTexts, AreComparable, Negotiates};
 ghost use Rattle.merlin.specs.Refine.{NamesSymbols, IsFaultReply};
 ghost use Rattle.merlin.specs.Refine.{IsRefineReply, refine_lines, refine_status};
-ghost use Rattle.merlin.specs.Reports.{IsReportWith, report_lines};
+ghost use Rattle.merlin.specs.Reports.{IsReportWith, IsWrittenAs};
 
 use crate::reading::{TEXT_LIMIT, Wanted};
-use crate::report::{Report, named_line, one_line};
+use refusal_text::{check_fault_text, net_fault_text, policy_fault_text};
+use crate::report::{Report, ReportBody, named_line, one_line};
 use crate::wider::{cap_text, path_text, reserve_text};
 use merlin_base::{Name, OutOfMemory, Status};
 use negotiator::RefineFault;
 use policy_check::{CheckFault, Checked, check};
 use policy_parser::{Policy, PolicyFault, parse};
-use refusal_text::{check_fault_text, net_fault_text, policy_fault_text};
 use std::alloc::Global;
 use topology::{NetFault, Topology, read};
 
@@ -277,13 +277,12 @@ fn status_of(reply: &RefineReply) -> Status
 }
 
 fn report_on(alloc: Global, reply: &RefineReply) -> Result<Report, OutOfMemory>
-    ensures lines { IfOk result (λ report. report_lines report ≡ refine_lines reply.now) }
+    ensures lines { IfOk result (λ report. IsWrittenAs report.body (refine_lines reply.now)) }
     ensures status { IfOk result (λ report. report.status ≡ refine_status reply.now) }
 {
     let lines = lines_of(alloc, reply)?;
     Ok(Report {
-        lines,
-        tree: None,
+        body: ReportBody::Lines(lines),
         status: status_of(reply),
     })
 }

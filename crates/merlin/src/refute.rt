@@ -4,10 +4,10 @@ ghost use Rattle.merlin.specs.Words.{word_texts};
 ghost use Rattle.merlin.specs.Reading.{files_wanted, texts_read};
 ghost use Rattle.merlin.specs.Refute.{RefuteForm, IsRefuteForm, refute_form, refute_files};
 ghost use Rattle.merlin.specs.Refute.{Checks, IsRefuteReply, refute_lines, refute_status};
-ghost use Rattle.merlin.specs.Reports.{IsReportWith, report_lines};
+ghost use Rattle.merlin.specs.Reports.{IsReportWith, IsWrittenAs};
 
 use crate::reading::{TEXT_LIMIT, Wanted};
-use crate::report::{Report, numbered_line, one_line};
+use crate::report::{Report, ReportBody, numbered_line, one_line};
 use certificate_text::{ProgramTextFault, TreeTextFault, read_program, read_tree};
 use merlin_base::{Name, OutOfMemory, Status};
 use std::alloc::Global;
@@ -109,13 +109,12 @@ fn status_of(reply: RefuteReply) -> Status
 }
 
 fn report_on(alloc: Global, reply: RefuteReply) -> Result<Report, OutOfMemory>
-    ensures lines { IfOk result (λ report. report_lines report ≡ refute_lines reply) }
+    ensures lines { IfOk result (λ report. IsWrittenAs report.body (refute_lines reply)) }
     ensures status { IfOk result (λ report. report.status ≡ refute_status reply) }
 {
     let lines = lines_of(alloc, reply)?;
     Ok(Report {
-        lines,
-        tree: None,
+        body: ReportBody::Lines(lines),
         status: status_of(reply),
     })
 }

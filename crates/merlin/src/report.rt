@@ -1,24 +1,52 @@
 //! What is said of a command line, and how its run ends.
-ghost use Rattle.std.specs.Prelude.{◌≡◌, ◌≤◌, ◌++◌, ◌∷◌, [], OnOk, OnErr, IfOk};
+ghost use Rattle.std.specs.Prelude.{◌≡◌, ◌++◌, ◌∷◌, [], OnOk, IfOk};
 ghost use Rattle.std.specs.Fmt.{decimal};
 ghost use Rattle.config_text.specs.Words.{line};
-ghost use Rattle.merlin_base.specs.Outside.{Rose, FailsOnlyIf, Grows, GrowsByPrefix};
-ghost use Rattle.merlin_base.specs.Texts.{joined};
-ghost use Rattle.merlin.specs.Reports.{report_lines};
 ghost use Rattle.merlin.specs.Outcome.{NoForm, NotRead, TooLong};
 ghost use Rattle.merlin.specs.Parts.{IsReportOf, Tells};
 
 use crate::reading::Unread;
-use certificate_text::write_tree;
-use merlin_base::{Name, OutOfMemory, OutsideFault, Sink, Status, name_from, write_lines};
+use config_text::Config;
+use merlin_base::{Name, OutOfMemory, Status, name_from};
 use merlin_model::certificate::Tree;
+use merlin_model::config::Rule;
+use sqlite_items::Items;
 use std::alloc::Global;
+use topology::Topology;
 
-/// The lines that are written, those of a certificate behind them, if there is one, and the status once they are.
+/// What is written. Where it is long, its lines are made one at a time, when they are handed over.
+#[derive(Drop)]
+pub enum ReportBody {
+    /// These lines.
+    Lines(Vec<Name>),
+    /// First lines, and a certificate.
+    Certified {
+        head: Vec<Name>,
+        tree: Tree,
+    },
+    /// First lines, a configuration over a network, and a certificate.
+    Configured {
+        head: Vec<Name>,
+        net: Topology,
+        config: Config,
+        tree: Tree,
+    },
+    /// A configuration over a network.
+    Configuration {
+        net: Topology,
+        config: Config,
+    },
+    /// The message of each rule that is at the switch.
+    Messages {
+        switch: usize,
+        rules: Items<Rule>,
+    },
+}
+
+/// What is written, and the status once it is.
 #[derive(Drop)]
 pub struct Report {
-    pub lines: Vec<Name>,
-    pub tree: Option<Tree>,
+    pub body: ReportBody,
     pub status: Status,
 }
 
@@ -69,8 +97,7 @@ pub fn usage_report(alloc: Global) -> Result<Report, OutOfMemory>
 {
     let lines = one_line(alloc, USAGE)?;
     Ok(Report {
-        lines,
-        tree: None,
+        body: ReportBody::Lines(lines),
         status: Status::Usage,
     })
 }
@@ -81,8 +108,7 @@ fn fault_report(alloc: Global) -> Result<Report, OutOfMemory>
 {
     let lines = one_line(alloc, "fault: read")?;
     Ok(Report {
-        lines,
-        tree: None,
+        body: ReportBody::Lines(lines),
         status: Status::ReadFault,
     })
 }
@@ -93,8 +119,7 @@ fn too_long_report(alloc: Global, name: &Name) -> Result<Report, OutOfMemory>
 {
     let lines = named_line(alloc, "refused: too long ", name)?;
     Ok(Report {
-        lines,
-        tree: None,
+        body: ReportBody::Lines(lines),
         status: Status::Refused,
     })
 }
@@ -107,25 +132,5 @@ pub fn unread_report(alloc: Global, unread: &Unread) -> Result<Report, OutOfMemo
         Unread::Fault => fault_report(alloc),
         Unread::TooLong(name) => too_long_report(alloc, name),
         Unread::OutOfMemory => Err(OutOfMemory),
-    }
-}
-
-/// Hands the lines of a report to the sink, each as one piece.
-pub fn write_report<K: Sink>(
-    alloc: Global,
-    out: &mut K,
-    report: &Report,
-) -> Result<(), OutsideFault>
-    ensures ok { OnOk result (Grows (K.taken out.old) (K.taken out.new)
-        (joined (report_lines report.now))) }
-    ensures err { OnErr result (GrowsByPrefix (K.taken out.old) (K.taken out.new)
-        (joined (report_lines report.now))) }
-    ensures later { K.faults out.old ≤ K.faults out.new }
-    ensures failed { FailsOnlyIf result (Rose (K.faults out.old) (K.faults out.new)) }
-{
-    write_lines(out, &report.lines)?;
-    match &report.tree {
-        None => Ok(()),
-        Some(tree) => write_tree(alloc, tree, out),
     }
 }

@@ -7,7 +7,7 @@ ghost use Rattle.packet_trace.specs.Trace.{IsTrace, record_of};
 ghost use Rattle.topology_rules.specs.Faults.{IsTopology};
 ghost use Rattle.merlin.specs.Words.{word_texts};
 ghost use Rattle.merlin.specs.Reading.{files_wanted, texts_read};
-ghost use Rattle.merlin.specs.Reports.{IsReportWith, report_lines};
+ghost use Rattle.merlin.specs.Reports.{IsReportWith, IsWrittenAs};
 ghost use Rattle.merlin.specs.Inputs.{AreNetworkAndResult};
 ghost use Rattle.merlin.specs.Trace.{TraceForm, IsTraceForm, trace_form, trace_files, IsHostNamed};
 ghost use Rattle.merlin.specs.Trace.{visit_line, Traces, IsTraceReply};
@@ -17,7 +17,7 @@ ghost use Rattle.merlin.specs.Trace.{trace_lines as lines_of_reply, trace_status
 
 use crate::inputs::{wrong_result_lines, wrong_topology_lines};
 use crate::reading::{RESULT_LIMIT, TEXT_LIMIT, Wanted};
-use crate::report::{Report, named_line, numbered_line, one_line};
+use crate::report::{Report, ReportBody, named_line, numbered_line, one_line};
 use crate::trace_lines::{delivered_line, dropped_line, push_visits};
 use config_read::{ConfigFault, ResultText, read as read_result};
 use config_text::Config;
@@ -293,14 +293,13 @@ fn status_of(reply: &TraceReply) -> Status
 
 // What is reported of a reply.
 fn report_on(alloc: Global, reply: TraceReply) -> Result<Report, OutOfMemory>
-    ensures lines { IfOk result (λ report. report_lines report ≡ lines_of_reply reply) }
+    ensures lines { IfOk result (λ report. IsWrittenAs report.body (lines_of_reply reply)) }
     ensures status { IfOk result (λ report. report.status ≡ trace_status reply) }
 {
     let status = status_of(&reply);
     let lines = lines_of(alloc, reply)?;
     Ok(Report {
-        lines,
-        tree: None,
+        body: ReportBody::Lines(lines),
         status,
     })
 }

@@ -1,22 +1,20 @@
 //! The command `unwire`.
-ghost use Rattle.std.specs.Prelude.{◌≡◌, ◌<◌, ◌++◌, ◌∷◌, [], ℕ, List, length, OnOk, IfOk, IfErr, IfSome, IfNone};
-ghost use Rattle.std.specs.List.{All};
+ghost use Rattle.std.specs.Prelude.{◌≡◌, ◌++◌, ◌∷◌, [], ℕ, List, length, OnOk, IfOk, IfErr, IfSome, IfNone};
 ghost use Rattle.config_text.specs.Words.{line};
-ghost use Rattle.config_text.specs.Lines.{rule_lines};
 ghost use Rattle.merlin_model.specs.declared.config.Rule.{Rule as Stated};
 ghost use Rattle.topology_rules.specs.Faults.{IsTopology};
 ghost use Rattle.merlin.specs.Words.{word_texts};
 ghost use Rattle.merlin.specs.Reading.{files_wanted, texts_read};
-ghost use Rattle.merlin.specs.Reports.{IsReportWith, report_lines};
+ghost use Rattle.merlin.specs.Reports.{IsReportWith, IsWrittenAs};
 ghost use Rattle.merlin.specs.Unwire.{UnwireForm, IsUnwireForm, unwire_form, unwire_files};
-ghost use Rattle.merlin.specs.Unwire.{IsLineOfRule, BeginsWithMessages, no_digits_text, bad_message_text};
-ghost use Rattle.merlin.specs.Unwire.{Unwires, IsUnwireReply, unwire_lines as lines_of_reply, unwire_status};
+ghost use Rattle.merlin.specs.Unwire.{IsLineOfRule, BeginsWithMessages, rules_alone, no_digits_text, bad_message_text};
+ghost use Rattle.merlin.specs.Unwire.{Unwires, IsUnwireReply, HasConfigOver, unwire_lines as lines_of_reply, unwire_status};
 ghost use Rattle.merlin.specs.Messages.{IsDigitsFault, IsLineBefore, IsFaultBefore, IsMessageFault, Unwired};
 
 use crate::inputs::{switch_named, unknown_switch_lines, wrong_topology_lines};
 use crate::reading::{RESULT_LIMIT, TEXT_LIMIT, Wanted};
-use crate::report::{Report, one_line};
-use config_text::{Config, print};
+use crate::report::{Report, ReportBody, one_line};
+use config_text::Config;
 use hex::FromHexError;
 use merlin_base::{Name, OutOfMemory, Status, name_from, split_at_byte};
 use merlin_model::config::Rule;
@@ -33,15 +31,15 @@ pub struct Unwire<'a> {
     pub messages: &'a str,
 }
 
-/// What is replied to it. `NoDigits` and `BadMessage` have the number of the line, from 1, and `BadMessage` the place of the field. `Written` has a
-/// line for each rule.
+/// What is replied to it. `NoDigits` and `BadMessage` have the number of the line, from 1, and `BadMessage` the place of the field. `Written` has
+/// the rules of all messages as a configuration over the network.
 #[derive(Drop)]
 pub enum UnwireReply {
     BadTopology(NetFault),
     UnknownSwitch(Name),
     NoDigits(usize),
     BadMessage(usize, usize),
-    Written(Vec<Name>),
+    Written { net: Topology, config: Config },
 }
 
 /// The command to read messages that the words are, if they are one.
@@ -162,37 +160,33 @@ fn read_messages(
     Ok(())
 }
 
-// The lines of rules.
-fn lines_of_rules(
-    alloc: Global,
-    net: &Topology,
-    rules: Items<Rule>,
-) -> Result<Vec<Name>, OutOfMemory>
-    requires { All (λ rule. rule.loc < length net.now.locations) rules }
-    ensures { IfOk result (λ lines. lines.items ≡ rule_lines net.now rules) }
+// A configuration of rules alone.
+fn config_of(alloc: Global, rules: Items<Rule>) -> Config
+    ensures { result ≡ rules_alone rules }
 {
-    let config = Config {
+    Config {
         rules,
         processes: Items::new(alloc),
         queues: Items::new(alloc),
         hosts: Items::new(alloc),
-    };
-    print(alloc, &config, net)
+    }
 }
 
 // What is replied to messages for a switch.
 fn reply_to_messages(
     alloc: Global,
-    net: &Topology,
+    net: Topology,
     switch: usize,
     messages: &[u8],
 ) -> Result<UnwireReply, OutOfMemory>
-    requires { switch < length net.now.locations }
-    ensures { IfOk result (Unwired net.now switch messages.now) }
+    ensures { IfOk result (Unwired net switch messages.now) }
 {
     let mut rules = Items::new(alloc);
     match read_messages(alloc, messages, switch, &mut rules) {
-        Ok(()) => Ok(UnwireReply::Written(lines_of_rules(alloc, net, rules)?)),
+        Ok(()) => Ok(UnwireReply::Written {
+            net,
+            config: config_of(alloc, rules),
+        }),
         Err(MessageFault { line, fault }) => match fault {
             DigitsFault::NoDigits => Ok(UnwireReply::NoDigits(line)),
             DigitsFault::BadMessage(at) => Ok(UnwireReply::BadMessage(line, at)),
@@ -204,14 +198,14 @@ fn reply_to_messages(
 // What is replied where the network is read, whatever text it comes from.
 fn reply_over_network(
     alloc: Global,
-    net: &Topology,
+    net: Topology,
     name: &str,
     messages: &[u8],
 ) -> Result<UnwireReply, OutOfMemory>
     ensures { (form : UnwireForm) (topology : List ℕ) → form.switch ≡ name.now →
-        IsTopology topology net.now → IfOk result (Unwires form topology messages.now) }
+        IsTopology topology net → IfOk result (Unwires form topology messages.now) }
 {
-    match switch_named(net, name.as_bytes()) {
+    match switch_named(&net, name.as_bytes()) {
         Some(switch) => reply_to_messages(alloc, net, switch, messages),
         None => Ok(UnwireReply::UnknownSwitch(name_from(alloc, name.as_bytes())?)),
     }
@@ -227,7 +221,7 @@ fn unwire_reply(
     ensures { IfOk result (Unwires (unwire_form command.entry) topology.now messages.now) }
 {
     match read_topology(alloc, topology) {
-        Ok(net) => reply_over_network(alloc, &net, command.switch, messages),
+        Ok(net) => reply_over_network(alloc, net, command.switch, messages),
         Err(NetFault::OutOfMemory) => Err(OutOfMemory),
         Err(fault) => Ok(UnwireReply::BadTopology(fault)),
     }
@@ -249,16 +243,20 @@ fn bad_message_line(alloc: Global, number: usize, at: usize) -> Result<Vec<Name>
     one_line(alloc, &text)
 }
 
-fn lines_of(alloc: Global, reply: UnwireReply) -> Result<Vec<Name>, OutOfMemory>
-    ensures { IfOk result (λ lines. lines.items ≡ lines_of_reply reply) }
+fn body_of(alloc: Global, reply: UnwireReply) -> Result<ReportBody, OutOfMemory>
+    requires { HasConfigOver reply }
+    ensures { IfOk result (λ body. IsWrittenAs body (lines_of_reply reply)) }
 {
-    match reply {
-        UnwireReply::BadTopology(fault) => wrong_topology_lines(alloc, &fault),
-        UnwireReply::UnknownSwitch(name) => unknown_switch_lines(alloc, &name),
-        UnwireReply::NoDigits(number) => no_digits_line(alloc, number),
-        UnwireReply::BadMessage(number, at) => bad_message_line(alloc, number, at),
-        UnwireReply::Written(lines) => Ok(lines),
-    }
+    let lines = match reply {
+        UnwireReply::BadTopology(fault) => wrong_topology_lines(alloc, &fault)?,
+        UnwireReply::UnknownSwitch(name) => unknown_switch_lines(alloc, &name)?,
+        UnwireReply::NoDigits(number) => no_digits_line(alloc, number)?,
+        UnwireReply::BadMessage(number, at) => bad_message_line(alloc, number, at)?,
+        UnwireReply::Written { net, config } => {
+            return Ok(ReportBody::Configuration { net, config });
+        }
+    };
+    Ok(ReportBody::Lines(lines))
 }
 
 fn status_of(reply: &UnwireReply) -> Status
@@ -269,22 +267,19 @@ fn status_of(reply: &UnwireReply) -> Status
         | UnwireReply::UnknownSwitch(_)
         | UnwireReply::NoDigits(_)
         | UnwireReply::BadMessage(..) => Status::Refused,
-        UnwireReply::Written(_) => Status::Done,
+        UnwireReply::Written { .. } => Status::Done,
     }
 }
 
 // What is reported of a reply.
 fn report_on(alloc: Global, reply: UnwireReply) -> Result<Report, OutOfMemory>
-    ensures lines { IfOk result (λ report. report_lines report ≡ lines_of_reply reply) }
+    requires { HasConfigOver reply }
+    ensures lines { IfOk result (λ report. IsWrittenAs report.body (lines_of_reply reply)) }
     ensures status { IfOk result (λ report. report.status ≡ unwire_status reply) }
 {
     let status = status_of(&reply);
-    let lines = lines_of(alloc, reply)?;
-    Ok(Report {
-        lines,
-        tree: None,
-        status,
-    })
+    let body = body_of(alloc, reply)?;
+    Ok(Report { body, status })
 }
 
 /// What is reported of the contents of its files.

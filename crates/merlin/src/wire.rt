@@ -1,24 +1,21 @@
 //! The command `wire`.
-ghost use Rattle.std.specs.Prelude.{◌≡◌, ◌++◌, ◌∷◌, [], ℕ, List, length, OnOk, IfOk, IfSome, IfNone};
-ghost use Rattle.merlin_model.specs.declared.config.Rule.{Rule as Stated};
-ghost use Rattle.std.specs.List.{All};
-ghost use Rattle.openflow_wire.specs.Rules.{IsRule};
+ghost use Rattle.std.specs.Prelude.{◌≡◌, ℕ, List, length, IfOk, IfSome, IfNone};
 ghost use Rattle.topology_rules.specs.Faults.{IsTopology};
 ghost use Rattle.merlin.specs.Words.{word_texts};
 ghost use Rattle.merlin.specs.Reading.{files_wanted, texts_read};
-ghost use Rattle.merlin.specs.Reports.{IsReportWith, report_lines};
+ghost use Rattle.merlin.specs.Reports.{IsReportWith, IsWrittenAs};
 ghost use Rattle.merlin.specs.Inputs.{AreNetworkAndResult};
 ghost use Rattle.merlin.specs.Wire.{WireForm, IsWireForm, wire_form, wire_files};
-ghost use Rattle.merlin.specs.Wire.{rules_at, message_line, message_lines, Wires, IsWireReply};
+ghost use Rattle.merlin.specs.Wire.{HaveMessages, Wires, IsWireReply};
 ghost use Rattle.merlin.specs.Wire.{wire_lines as lines_of_reply, wire_status};
 
 use crate::inputs::{switch_named, unknown_switch_lines, wrong_result_lines, wrong_topology_lines};
 use crate::reading::{RESULT_LIMIT, TEXT_LIMIT, Wanted};
-use crate::report::Report;
+use crate::report::{Report, ReportBody};
 use config_read::{ConfigFault, ResultText, read as read_result};
 use merlin_base::{Name, OutOfMemory, Status, name_from};
 use merlin_model::config::Rule;
-use openflow_wire::encode;
+use sqlite_items::Items;
 use std::alloc::Global;
 use topology::{NetFault, Topology, read as read_topology};
 
@@ -30,13 +27,13 @@ pub struct Wire<'a> {
     pub switch: &'a str,
 }
 
-/// What is replied to it. `Written` has a line for each message.
+/// What is replied to it. `Written` has all rules of the result, of which those at the switch have messages.
 #[derive(Drop)]
 pub enum WireReply {
     BadTopology(NetFault),
     BadResult(usize),
     UnknownSwitch(Name),
-    Written(Vec<Name>),
+    Written { switch: usize, rules: Items<Rule> },
 }
 
 /// The command to write messages that the words are, if they are one.
@@ -75,65 +72,32 @@ pub fn files_to_wire<'a>(command: Wire<'a>) -> [Wanted<'a>; 2]
     ]
 }
 
-// The line of a rule's message. A message has 32 bits for its number, and no result has as many lines.
-fn line_of_message(alloc: Global, rule: &Rule, number: usize) -> Result<Name, OutOfMemory>
-    requires { IsRule rule.now }
-    ensures { IfOk result (λ name. name ≡ message_line rule.now number) }
+// All rules of a result.
+fn rules_of(read: ResultText) -> Items<Rule>
+    ensures { result ≡ read.config.rules }
 {
-    let message = encode(alloc, rule, (number % 0x1_0000_0000) as u32)?;
-    let digits = hex::encode(alloc, message)?;
-    let text = format!(in alloc; "{digits}\n")?;
-    name_from(alloc, text.as_bytes())
-}
-
-// Adds the line of a rule's message behind those of earlier ones, if the rule is at the switch.
-fn push_message(
-    alloc: Global,
-    lines: &mut Vec<Name>,
-    rule: &Rule,
-    switch: usize,
-) -> Result<(), OutOfMemory>
-    requires { IsRule rule.now }
-    ensures { (rules : List Stated) →
-        lines.old.items ≡ message_lines 1 (rules_at switch rules) → OnOk result
-        (lines.new.items ≡ message_lines 1 (rules_at switch (rules ++ rule.now ∷ []))) }
-{
-    if rule.loc == switch {
-        let number = lines.len() + 1;
-        lines.push(line_of_message(alloc, rule, number)?)?;
-    }
-    Ok(())
-}
-
-// The lines of the messages of a switch's rules.
-fn lines_of_messages(alloc: Global, rules: &[Rule], switch: usize) -> Result<Vec<Name>, OutOfMemory>
-    requires { All IsRule rules.now }
-    ensures { IfOk result (λ lines. lines.items ≡ message_lines 1 (rules_at switch rules.now)) }
-{
-    let mut lines = Vec::new(alloc);
-    for rule in rules {
-        push_message(alloc, &mut lines, rule, switch)?;
-    }
-    Ok(lines)
+    let config = read.config;
+    config.rules
 }
 
 // What is replied where the result is read, whatever texts it and the network come from.
 fn reply_over_result(
     alloc: Global,
     net: &Topology,
-    read: &ResultText,
+    read: ResultText,
     name: &str,
 ) -> Result<WireReply, OutOfMemory>
-    requires { All IsRule read.now.config.rules }
     ensures { (form : WireForm) (topology bytes : List ℕ) → form.switch ≡ name.now →
-        AreNetworkAndResult topology bytes net.now read.now →
+        AreNetworkAndResult topology bytes net.now read →
         IfOk result (Wires form topology bytes) }
 {
     let Some(switch) = switch_named(net, name.as_bytes()) else {
         return Ok(WireReply::UnknownSwitch(name_from(alloc, name.as_bytes())?));
     };
-    let lines = lines_of_messages(alloc, read.config.rules.as_slice(), switch)?;
-    Ok(WireReply::Written(lines))
+    Ok(WireReply::Written {
+        switch,
+        rules: rules_of(read),
+    })
 }
 
 // What is replied where the network is read, whatever text it comes from.
@@ -147,7 +111,7 @@ fn reply_over_network(
         IsTopology topology net.now → IfOk result (Wires form topology bytes.now) }
 {
     match read_result(alloc, bytes, net) {
-        Ok(read) => reply_over_result(alloc, net, &read, name),
+        Ok(read) => reply_over_result(alloc, net, read, name),
         Err(ConfigFault::BadConfig { at }) => Ok(WireReply::BadResult(at)),
         Err(ConfigFault::OutOfMemory) => Err(OutOfMemory),
     }
@@ -169,14 +133,19 @@ fn wire_reply(
     }
 }
 
-fn lines_of(alloc: Global, reply: WireReply) -> Result<Vec<Name>, OutOfMemory>
-    ensures { IfOk result (λ lines. lines.items ≡ lines_of_reply reply) }
+fn body_of(alloc: Global, reply: WireReply) -> Result<ReportBody, OutOfMemory>
+    requires { HaveMessages reply }
+    ensures { IfOk result (λ body. IsWrittenAs body (lines_of_reply reply)) }
 {
     match reply {
-        WireReply::BadTopology(fault) => wrong_topology_lines(alloc, &fault),
-        WireReply::BadResult(at) => wrong_result_lines(alloc, at),
-        WireReply::UnknownSwitch(name) => unknown_switch_lines(alloc, &name),
-        WireReply::Written(lines) => Ok(lines),
+        WireReply::BadTopology(fault) => Ok(ReportBody::Lines(wrong_topology_lines(
+            alloc, &fault,
+        )?)),
+        WireReply::BadResult(at) => Ok(ReportBody::Lines(wrong_result_lines(alloc, at)?)),
+        WireReply::UnknownSwitch(name) => Ok(ReportBody::Lines(unknown_switch_lines(
+            alloc, &name,
+        )?)),
+        WireReply::Written { switch, rules } => Ok(ReportBody::Messages { switch, rules }),
     }
 }
 
@@ -187,22 +156,19 @@ fn status_of(reply: &WireReply) -> Status
         WireReply::BadTopology(_) | WireReply::BadResult(_) | WireReply::UnknownSwitch(_) => {
             Status::Refused
         }
-        WireReply::Written(_) => Status::Done,
+        WireReply::Written { .. } => Status::Done,
     }
 }
 
 // What is reported of a reply.
 fn report_on(alloc: Global, reply: WireReply) -> Result<Report, OutOfMemory>
-    ensures lines { IfOk result (λ report. report_lines report ≡ lines_of_reply reply) }
+    requires { HaveMessages reply }
+    ensures lines { IfOk result (λ report. IsWrittenAs report.body (lines_of_reply reply)) }
     ensures status { IfOk result (λ report. report.status ≡ wire_status reply) }
 {
     let status = status_of(&reply);
-    let lines = lines_of(alloc, reply)?;
-    Ok(Report {
-        lines,
-        tree: None,
-        status,
-    })
+    let body = body_of(alloc, reply)?;
+    Ok(Report { body, status })
 }
 
 /// What is reported of the contents of its files.

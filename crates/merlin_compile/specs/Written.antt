@@ -1,6 +1,5 @@
 -- What is written of a result.
 use Rattle.std.specs.Prelude.{ℕ, List, zip}
-use Rattle.merlin_model.specs.declared.certificate.Tree.{Tree}
 use Rattle.merlin_model.specs.declared.policy.Objective.{Objective}
 use Rattle.config_text.specs.Loads.{loads_of}
 use Rattle.config_text.specs.Result.{result_lines}
@@ -23,12 +22,6 @@ abbrev pub compiled_lines : Compiled → List (List ℕ)
 compiled_lines (Least solved) = solved_lines solved
 compiled_lines (Infeasible objective tree) = infeasible_lines objective tree
 compiled_lines (Budget partial) = partial_lines partial
-
--- the tree of a result
-abbrev pub tree_of : Compiled → Tree
-tree_of (Least solved) = solved.tree
-tree_of (Infeasible objective tree) = tree
-tree_of (Budget partial) = partial.tree
 
 -- It is the result of some texts.
 

@@ -12,4 +12,4 @@ mod writing;
 pub use compiler::compile;
 pub use fault::{CompileFault, compile_fault_text};
 pub use outcome::{Compiled, Partial, Solved};
-pub use writing::compiled_head;
+pub use writing::{partial_head, solved_head};

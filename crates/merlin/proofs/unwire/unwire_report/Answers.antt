@@ -1,7 +1,10 @@
-use Rattle.merlin.specs.Reading.{texts_read}
-use Rattle.merlin.specs.Unwire.{unwire_lines, unwire_status}
+use Rattle.merlin.specs.Unwire.{unwire_form, unwire_lines, unwire_status}
 use Rattle.merlin.proofs.Replies.{texts_of_both, IfOk-with}
+use Rattle.merlin.proofs.Unwiring.{config_over}
 use Rattle.merlin.proofs.unwire.unwire_report.Goals as goal
+
+pub report_on-requires : goal.report_on-requires
+report_on-requires c = config_over (unwire_form c.args.command) _ _ c.in-Ok.reply c.in-Ok.ensures
 
 pub returns-in-Ok : goal.returns-in-Ok
 returns-in-Ok c =

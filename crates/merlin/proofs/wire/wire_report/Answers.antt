@@ -1,7 +1,10 @@
-use Rattle.merlin.specs.Reading.{texts_read}
-use Rattle.merlin.specs.Wire.{wire_lines, wire_status}
+use Rattle.merlin.specs.Wire.{wire_form, wire_lines, wire_status}
 use Rattle.merlin.proofs.Replies.{texts_of_both, IfOk-with}
+use Rattle.merlin.proofs.Wiring.{have_alone}
 use Rattle.merlin.proofs.wire.wire_report.Goals as goal
+
+pub report_on-requires : goal.report_on-requires
+report_on-requires c = have_alone (wire_form c.args.command) _ _ c.in-Ok.reply c.in-Ok.ensures
 
 pub returns-in-Ok : goal.returns-in-Ok
 returns-in-Ok c =

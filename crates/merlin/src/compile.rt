@@ -17,8 +17,9 @@ ghost use Rattle.merlin.specs.Reports.{IsReportWith, IsWrittenAs};
 use crate::reading::{TEXT_LIMIT, Wanted};
 use crate::report::{Report, ReportBody, named_line};
 use merlin_base::{OutOfMemory, Status, read_decimal};
-use merlin_compile::{CompileFault, Compiled, Partial, Solved, compile, compile_fault_text};
-use merlin_compile::{partial_head, solved_head};
+use merlin_compile::{
+    CompileFault, Compiled, Partial, Solved, compile, compile_fault_text, partial_head, solved_head,
+};
 use merlin_model::certificate::Tree;
 use merlin_model::limits::MAX_NODES;
 use merlin_model::policy::Objective;

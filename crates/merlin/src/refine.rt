@@ -15,13 +15,13 @@ ghost use Rattle.merlin.specs.Refine.{IsRefineReply, refine_lines, refine_status
 ghost use Rattle.merlin.specs.Reports.{IsReportWith, IsWrittenAs};
 
 use crate::reading::{TEXT_LIMIT, Wanted};
-use refusal_text::{check_fault_text, net_fault_text, policy_fault_text};
 use crate::report::{Report, ReportBody, named_line, one_line};
 use crate::wider::{cap_text, path_text, reserve_text};
 use merlin_base::{Name, OutOfMemory, Status};
 use negotiator::RefineFault;
 use policy_check::{CheckFault, Checked, check};
 use policy_parser::{Policy, PolicyFault, parse};
+use refusal_text::{check_fault_text, net_fault_text, policy_fault_text};
 use std::alloc::Global;
 use topology::{NetFault, Topology, read};
 

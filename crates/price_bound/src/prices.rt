@@ -10,9 +10,11 @@ ghost use Rattle.price_bound.specs.Numbers.{AreCosts, ArePricesTried, DoNotRefut
 
 use crate::costs::{Costs, CostsFound, find};
 use crate::leaf::{Priced, leaf};
+use crate::trials::by_trials;
 use crate::tried::{try_lengths, try_links, try_rows};
 use certificate::Workspace;
 use integer_program::{Fixed, Program, Relaxation, Verdict, is_open, is_solution};
+use link_prices::LinkPrices;
 use merlin_model::OutOfMemory;
 use merlin_model::policy::Value;
 use merlin_program::MerlinProgram;
@@ -42,6 +44,7 @@ fn by_point(
     cutoff: Option<&Value>,
     fixed: &Fixed,
     workspace: &mut Workspace,
+    prices: &mut LinkPrices,
     point: Items<bool>,
 ) -> Result<Verdict, OutOfMemory>
     requires asked { IsBoxAsked program.now.problem (option_copied cutoff) fixed.now }
@@ -59,7 +62,7 @@ fn by_point(
         return Ok(Verdict::Better(point));
     }
     if has_open(program, cutoff, fixed) {
-        return Ok(Verdict::Undecided);
+        return by_trials(alloc, program, cutoff, fixed, workspace, prices);
     }
     match try_rows(alloc, program, cutoff, fixed, workspace)? {
         Some(weights) => Ok(Verdict::Closed(weights)),
@@ -74,6 +77,7 @@ fn by_links(
     cutoff: Option<&Value>,
     fixed: &Fixed,
     workspace: &mut Workspace,
+    prices: &mut LinkPrices,
     costs: Costs,
 ) -> Result<Verdict, OutOfMemory>
     requires asked { IsBoxAsked program.now.problem (option_copied cutoff) fixed.now }
@@ -96,7 +100,15 @@ fn by_links(
         costs.point.as_slice(),
     )? {
         Some(weights) => Ok(Verdict::Closed(weights)),
-        None => by_point(alloc, program, cutoff, fixed, workspace, costs.point),
+        None => by_point(
+            alloc,
+            program,
+            cutoff,
+            fixed,
+            workspace,
+            prices,
+            costs.point,
+        ),
     }
 }
 
@@ -107,6 +119,7 @@ fn by_costs(
     cutoff: Option<&Value>,
     fixed: &Fixed,
     workspace: &mut Workspace,
+    prices: &mut LinkPrices,
     costs: Costs,
 ) -> Result<Verdict, OutOfMemory>
     requires asked { IsBoxAsked program.now.problem (option_copied cutoff) fixed.now }
@@ -127,7 +140,7 @@ fn by_costs(
         costs.numbers.as_slice(),
     )? {
         Some(weights) => Ok(Verdict::Closed(weights)),
-        None => by_links(alloc, program, cutoff, fixed, workspace, costs),
+        None => by_links(alloc, program, cutoff, fixed, workspace, prices, costs),
     }
 }
 
@@ -158,6 +171,7 @@ fn look_at(
     cutoff: Option<&Value>,
     fixed: &Fixed,
     workspace: &mut Workspace,
+    prices: &mut LinkPrices,
 ) -> Result<Verdict, OutOfMemory>
     requires asked { IsBoxAsked program.now.problem (option_copied cutoff) fixed.now }
     requires room { workspace.old ≡ length (variables_of program.now.problem) }
@@ -168,14 +182,17 @@ fn look_at(
 {
     match find(alloc, program, cutoff, fixed)? {
         CostsFound::Cut(numbers) => closed_by_cut(alloc, program, cutoff, fixed, numbers),
-        CostsFound::Paths(costs) => by_costs(alloc, program, cutoff, fixed, workspace, costs),
+        CostsFound::Paths(costs) => by_costs(
+            alloc, program, cutoff, fixed, workspace, prices, costs,
+        ),
     }
 }
 
-/// Prices on links and shortest walks, with the room in which leaves are tested.
+/// Prices on links and shortest walks, with the room in which leaves are tested and the last prices.
 #[derive(Drop)]
 pub struct Prices {
     workspace: Workspace,
+    prices: LinkPrices,
 }
 
 impl Relaxation<MerlinProgram> for Prices {
@@ -189,7 +206,14 @@ impl Relaxation<MerlinProgram> for Prices {
         cutoff: Option<&Value>,
         fixed: &Fixed,
     ) -> Result<Verdict, OutOfMemory> {
-        look_at(alloc, program, cutoff, fixed, &mut self.workspace)
+        look_at(
+            alloc,
+            program,
+            cutoff,
+            fixed,
+            &mut self.workspace,
+            &mut self.prices,
+        )
     }
 }
 
@@ -199,5 +223,6 @@ pub fn new(alloc: Global, program: &MerlinProgram) -> Result<Prices, OutOfMemory
         IfOk result (λ prices. IsTrue (is_of prices program.now)) }
 {
     let workspace = Workspace::new(alloc, program.variables())?;
-    Ok(Prices { workspace })
+    let prices = link_prices::new(alloc, program)?;
+    Ok(Prices { workspace, prices })
 }

@@ -2,10 +2,11 @@
 //! found is a candidate alone. Whoever uses it tests it, so no clause rests on how it is found; all numbers are whole.
 #![tactic(auto)]
 
+mod breakout;
 mod congestion;
 mod demand;
 mod leaf;
-mod numbers;
+pub mod numbers;
 mod pricing;
 mod routing;
 mod spread;

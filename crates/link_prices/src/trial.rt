@@ -5,6 +5,7 @@ ghost use Rattle.std.specs.Option.{option_copied};
 ghost use Rattle.merlin_model.specs.Programs.{Takes};
 ghost use Rattle.cutoff_program.specs.Flows.{takes};
 
+use crate::breakout::break_out;
 use crate::congestion::{Congestion, negotiate, shorten};
 use crate::demand::{Demands, demands_of, first_variables};
 use crate::leaf::leaf_of;
@@ -46,6 +47,19 @@ pub struct LinkPrices {
 
 // What a flow pays where it would not fit, if it must.
 const STRICT: u64 = 17_592_186_044_416;
+
+// How many steps of prices, rounds of rerouting and moves are tried: at the box that fixes nothing, and at the others.
+const STEPS: usize = 200;
+
+const STEPS_BELOW: usize = 12;
+
+const ROUNDS: usize = 24;
+
+const SQUEEZED_ROUNDS: usize = 8;
+
+const ROUNDS_BELOW: usize = 1;
+
+const TURNS: u64 = 2000;
 
 /// No prices yet.
 pub fn new(alloc: Global, program: &MerlinProgram) -> Result<LinkPrices, OutOfMemory> {
@@ -206,30 +220,50 @@ fn by_squeezing(
     alloc: Global,
     demands: &mut Demands,
     kept: &LinkPrices,
-    rounds: usize,
     part: u64,
 ) -> Result<Found, OutOfMemory> {
     let whole = Items::from_slice(alloc, demands.rooms.as_slice())?;
     scale_all(&mut demands.rooms, part, 16, 0);
-    let found = by_rerouting(alloc, demands, kept, rounds)?;
+    let found = by_rerouting(alloc, demands, kept, SQUEEZED_ROUNDS)?;
     demands.rooms = whole;
     Ok(found)
 }
 
-// Points at the box that fixes nothing, the closest rooms first where loads are to be kept below a cutoff.
-fn by_points(
+// The closest rooms first.
+fn by_closer_rooms(
     alloc: Global,
     demands: &mut Demands,
     kept: &LinkPrices,
-    rounds: usize,
 ) -> Result<Found, OutOfMemory> {
-    for part in [12, 14, 15, 16] {
-        match by_squeezing(alloc, demands, kept, rounds, part)? {
+    for part in [12, 14, 15] {
+        match by_squeezing(alloc, demands, kept, part)? {
             Found::Nothing => {}
             found => return Ok(found),
         }
     }
     Ok(Found::Nothing)
+}
+
+// Local search from the paths of the last prices.
+fn by_moves(alloc: Global, demands: &Demands, kept: &LinkPrices) -> Result<Found, OutOfMemory> {
+    let mut routing = route_all(alloc, demands, kept.by_factor.as_slice())?;
+    if break_out(alloc, demands, &mut routing, TURNS)? {
+        Ok(Found::Paths(routing))
+    } else {
+        Ok(Found::Nothing)
+    }
+}
+
+// Points where loads alone decide.
+fn by_loads(alloc: Global, demands: &mut Demands, kept: &LinkPrices) -> Result<Found, OutOfMemory> {
+    match by_closer_rooms(alloc, demands, kept)? {
+        Found::Nothing => {}
+        found => return Ok(found),
+    }
+    match by_rerouting(alloc, demands, kept, ROUNDS)? {
+        Found::Nothing => by_moves(alloc, demands, kept),
+        found => Ok(found),
+    }
 }
 
 // Whether a box fixes nothing.
@@ -259,6 +293,18 @@ fn trial_of(
     }
 }
 
+// Points with much effort, by the rule that suits what is to be kept.
+fn by_points(
+    alloc: Global,
+    demands: &mut Demands,
+    kept: &LinkPrices,
+) -> Result<Found, OutOfMemory> {
+    match demands.most {
+        None => by_loads(alloc, demands, kept),
+        Some(_) => by_rerouting(alloc, demands, kept, ROUNDS),
+    }
+}
+
 // The trials in order, with more effort where nothing is fixed.
 fn find(
     alloc: Global,
@@ -266,15 +312,15 @@ fn find(
     kept: &mut LinkPrices,
     is_whole: bool,
 ) -> Result<Found, OutOfMemory> {
-    let (steps, rounds) = if is_whole { (200, 24) } else { (30, 2) };
+    let steps = if is_whole { STEPS } else { STEPS_BELOW };
     match by_prices(alloc, demands, kept, steps)? {
         Found::Nothing => {}
         found => return Ok(found),
     }
     if is_whole {
-        by_points(alloc, demands, kept, rounds)
+        by_points(alloc, demands, kept)
     } else {
-        by_rerouting(alloc, demands, kept, rounds)
+        by_rerouting(alloc, demands, kept, ROUNDS_BELOW)
     }
 }
 

@@ -1,9 +1,9 @@
 //! Points by a local search that breaks out of what it cannot better (Morris 1993): of the flows on an overloaded link the one is moved
 //! that lessens the weighted excess most, also by nothing; then overloaded links get heavier, and a flow that was moved rests a while.
 
-use crate::demand::{Demand, Demands};
+use crate::demand::{Demand, Traffic};
 use crate::numbers::{number_at, put, repeated};
-use crate::routing::{Routing, fits, load, route};
+use crate::routing::{Routing, have_room, load, route};
 use merlin_model::OutOfMemory;
 use sqlite_items::Items;
 use std::alloc::Global;
@@ -90,7 +90,7 @@ fn worst_link(rooms: &[u64], loads: &[u64], weights: &[u64]) -> Option<usize> {
 // The best way to go for one flow, where the others stay.
 fn move_of(
     alloc: Global,
-    demands: &Demands,
+    traffic: &Traffic,
     demand: &Demand,
     flow: usize,
     routing: &mut Routing,
@@ -101,7 +101,7 @@ fn move_of(
         return Ok(None);
     };
     load(loads, demand, old.as_slice(), false);
-    let rooms = demands.rooms.as_slice();
+    let rooms = traffic.rooms.as_slice();
     let costs = excess_costs(alloc, rooms, loads.as_slice(), weights, demand.rate)?;
     let before = cost_along(demand, old.as_slice(), costs.as_slice());
     let path = route(alloc, demand, costs.as_slice())?;
@@ -150,7 +150,7 @@ fn better(best: Option<Move>, next: Option<Move>) -> Option<Move> {
 // The best move of flows off a link.
 fn best_move(
     alloc: Global,
-    demands: &Demands,
+    traffic: &Traffic,
     routing: &mut Routing,
     breakout: &Breakout,
     link: usize,
@@ -158,11 +158,11 @@ fn best_move(
 ) -> Result<Option<Move>, OutOfMemory> {
     let mut best = None;
     let mut count = 0_usize;
-    for (flow, demand) in demands.all.as_slice().iter().enumerate() {
+    for (flow, demand) in traffic.all.as_slice().iter().enumerate() {
         if count < CANDIDATES && may_move(demand, routing, breakout, flow, link, turn) {
             count = count.saturating_add(1);
             let weights = breakout.weights.as_slice();
-            let next = move_of(alloc, demands, demand, flow, routing, weights)?;
+            let next = move_of(alloc, traffic, demand, flow, routing, weights)?;
             best = better(best, next);
         }
     }
@@ -170,13 +170,13 @@ fn best_move(
 }
 
 // Moves a flow.
-fn apply(demands: &Demands, routing: &mut Routing, found: Move) {
+fn apply(traffic: &Traffic, routing: &mut Routing, found: Move) {
     let Move {
         flow,
         path,
         gain: _,
     } = found;
-    if let Some(demand) = demands.all.as_slice().get(flow) {
+    if let Some(demand) = traffic.all.as_slice().get(flow) {
         if let Some(old) = routing.paths.get(flow) {
             load(&mut routing.loads, demand, old.as_slice(), false);
         }
@@ -200,17 +200,17 @@ fn raise(rooms: &[u64], loads: &[u64], weights: &mut Items<u64>) {
 // One turn: a move off the worst link.
 fn turn_once(
     alloc: Global,
-    demands: &Demands,
+    traffic: &Traffic,
     routing: &mut Routing,
     breakout: &mut Breakout,
     turn: u64,
 ) -> Result<(), OutOfMemory> {
-    let rooms = demands.rooms.as_slice();
+    let rooms = traffic.rooms.as_slice();
     let worst = worst_link(rooms, routing.loads.as_slice(), breakout.weights.as_slice());
     let Some(link) = worst else {
         return Ok(());
     };
-    let found = best_move(alloc, demands, routing, breakout, link, turn)?;
+    let found = best_move(alloc, traffic, routing, breakout, link, turn)?;
     let Some(found) = found else {
         raise(rooms, routing.loads.as_slice(), &mut breakout.weights);
         return Ok(());
@@ -220,26 +220,26 @@ fn turn_once(
     }
     let rest = turn.saturating_add(4).saturating_add(turn % 5);
     put(&mut breakout.rests, found.flow, rest);
-    apply(demands, routing, found);
+    apply(traffic, routing, found);
     Ok(())
 }
 
 /// Moves flows until no link is overloaded, at most so often; answers whether none is.
 pub fn break_out(
     alloc: Global,
-    demands: &Demands,
+    traffic: &Traffic,
     routing: &mut Routing,
     turns: u64,
 ) -> Result<bool, OutOfMemory> {
     let mut breakout = Breakout {
-        weights: repeated(alloc, demands.rooms.len(), 16)?,
-        rests: repeated(alloc, demands.all.len(), 0)?,
+        weights: repeated(alloc, traffic.rooms.len(), 16)?,
+        rests: repeated(alloc, traffic.all.len(), 0)?,
     };
     for turn in 0..turns {
-        if fits(routing.loads.as_slice(), demands.rooms.as_slice()) {
+        if have_room(routing.loads.as_slice(), traffic.rooms.as_slice()) {
             return Ok(true);
         }
-        turn_once(alloc, demands, routing, &mut breakout, turn)?;
+        turn_once(alloc, traffic, routing, &mut breakout, turn)?;
     }
-    Ok(fits(routing.loads.as_slice(), demands.rooms.as_slice()))
+    Ok(have_room(routing.loads.as_slice(), traffic.rooms.as_slice()))
 }

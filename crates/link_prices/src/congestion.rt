@@ -1,9 +1,9 @@
 //! Points by negotiated congestion (McMurchie and Ebeling 1995): one flow after the other is taken out and routed again, where a link
 //! costs more the more often it was overloaded, and more still where the flow would not fit.
 
-use crate::demand::{Demand, Demands};
+use crate::demand::{Demand, Traffic};
 use crate::numbers::{dot, number_at, put, scaled};
-use crate::routing::{Routing, fits, is_short, load, route};
+use crate::routing::{Routing, have_room, is_short, load, route};
 use merlin_model::OutOfMemory;
 use sqlite_items::Items;
 use std::alloc::Global;
@@ -18,14 +18,14 @@ pub struct Congestion {
 // What one more flow pays for each link.
 fn costs_for(
     alloc: Global,
-    demands: &Demands,
+    traffic: &Traffic,
     loads: &[u64],
     rate: u64,
     congestion: &Congestion,
 ) -> Result<Items<u64>, OutOfMemory> {
     let mut costs = Items::new(alloc);
-    for (link, room) in demands.rooms.as_slice().iter().enumerate() {
-        let cost = number_at(demands.costs.as_slice(), link).saturating_add(number_at(
+    for (link, room) in traffic.rooms.as_slice().iter().enumerate() {
+        let cost = number_at(traffic.costs.as_slice(), link).saturating_add(number_at(
             congestion.remembered.as_slice(),
             link,
         ));
@@ -45,7 +45,7 @@ fn costs_for(
 // Routes one flow again.
 fn reroute(
     alloc: Global,
-    demands: &Demands,
+    traffic: &Traffic,
     demand: &Demand,
     flow: usize,
     routing: &mut Routing,
@@ -56,7 +56,7 @@ fn reroute(
     }
     let costs = costs_for(
         alloc,
-        demands,
+        traffic,
         routing.loads.as_slice(),
         demand.rate,
         congestion,
@@ -72,46 +72,46 @@ fn reroute(
 // Routes all flows again, one after the other.
 fn reroute_all(
     alloc: Global,
-    demands: &Demands,
+    traffic: &Traffic,
     routing: &mut Routing,
     congestion: &Congestion,
 ) -> Result<(), OutOfMemory> {
-    for (flow, demand) in demands.all.as_slice().iter().enumerate() {
-        reroute(alloc, demands, demand, flow, routing, congestion)?;
+    for (flow, demand) in traffic.all.as_slice().iter().enumerate() {
+        reroute(alloc, traffic, demand, flow, routing, congestion)?;
     }
     Ok(())
 }
 
-// Remembers which links are overloaded; forgets a part where all fits.
-fn remember(demands: &Demands, loads: &[u64], congestion: &mut Congestion) {
-    let are_fitting = fits(loads, demands.rooms.as_slice());
-    for (link, room) in demands.rooms.as_slice().iter().enumerate() {
+// Remembers which links are overloaded; forgets a part where all have_room.
+fn remember(traffic: &Traffic, loads: &[u64], congestion: &mut Congestion) {
+    let are_fitting = have_room(loads, traffic.rooms.as_slice());
+    for (link, room) in traffic.rooms.as_slice().iter().enumerate() {
         let old = number_at(congestion.remembered.as_slice(), link);
         let over = number_at(loads, link).saturating_sub(*room);
         let new = if are_fitting {
             scaled(old, 3, 4)
         } else {
-            old.saturating_add(scaled(over, demands.unit, *room).min(demands.unit))
+            old.saturating_add(scaled(over, traffic.unit, *room).min(traffic.unit))
         };
         put(&mut congestion.remembered, link, new);
     }
 }
 
-/// Routes all flows again, at most so often, until all fits and is short enough; answers whether it does.
+/// Routes all flows again, at most so often, until all have_room and is short enough; answers whether it does.
 pub fn negotiate(
     alloc: Global,
-    demands: &Demands,
+    traffic: &Traffic,
     routing: &mut Routing,
     congestion: &mut Congestion,
     rounds: usize,
 ) -> Result<bool, OutOfMemory> {
     for _round in 0..rounds {
-        reroute_all(alloc, demands, routing, congestion)?;
+        reroute_all(alloc, traffic, routing, congestion)?;
         let loads = routing.loads.as_slice();
-        if fits(loads, demands.rooms.as_slice()) && is_short(demands, loads) {
+        if have_room(loads, traffic.rooms.as_slice()) && is_short(traffic, loads) {
             return Ok(true);
         }
-        remember(demands, loads, congestion);
+        remember(traffic, loads, congestion);
     }
     Ok(false)
 }
@@ -119,15 +119,15 @@ pub fn negotiate(
 /// Routes all flows again where they stay within all rooms, at most so often, as long as what they cost gets less.
 pub fn shorten(
     alloc: Global,
-    demands: &Demands,
+    traffic: &Traffic,
     routing: &mut Routing,
     congestion: &Congestion,
     rounds: usize,
 ) -> Result<(), OutOfMemory> {
-    let costs = demands.costs.as_slice();
+    let costs = traffic.costs.as_slice();
     for _round in 0..rounds {
         let before = dot(routing.loads.as_slice(), costs);
-        reroute_all(alloc, demands, routing, congestion)?;
+        reroute_all(alloc, traffic, routing, congestion)?;
         if before <= dot(routing.loads.as_slice(), costs) {
             break;
         }

@@ -42,7 +42,7 @@ pub struct Demand {
 /// All flows, with the rooms of links. `costs` is what the cutoff row counts of a kbit/s on each link, times `unit`, and `most` its right
 /// side, also times `unit`, where there is one to keep below.
 #[derive(Drop)]
-pub struct Demands {
+pub struct Traffic {
     pub all: Items<Demand>,
     pub rooms: Items<u64>,
     pub costs: Items<u64>,
@@ -246,13 +246,13 @@ fn length_below(program: &MerlinProgram, cutoff: Option<&Value>) -> Option<u64>
 }
 
 /// All flows in a box, by the first variables of each.
-pub fn demands_of(
+pub fn traffic_of(
     alloc: Global,
     program: &MerlinProgram,
     cutoff: Option<&Value>,
     fixed: &Fixed,
     first: &[usize],
-) -> Result<Demands, OutOfMemory>
+) -> Result<Traffic, OutOfMemory>
     requires takes { Takes (takes program.now.problem.objective) (option_copied cutoff) }
 {
     let length = length_below(program, cutoff);
@@ -263,7 +263,7 @@ pub fn demands_of(
             (unit, Some(length.saturating_mul(unit)))
         }
     };
-    Ok(Demands {
+    Ok(Traffic {
         all: all_of(alloc, program, cutoff, fixed, first)?,
         rooms: rooms_of(alloc, program, cutoff)?,
         costs: costs_of(alloc, program, unit)?,

@@ -1,6 +1,6 @@
 //! The leaf of some prices: their links' rows, the cutoff row, and for each flow the least sums at its vertices, none above that of the end.
 
-use crate::demand::{Arc, Demand, Demands};
+use crate::demand::{Arc, Demand, Traffic};
 use crate::numbers::{number_at, put};
 use crate::spread::{price_of, sums_of};
 use merlin_model::OutOfMemory;
@@ -93,20 +93,20 @@ fn numbers_of(alloc: Global, demand: &Demand, prices: &[u64]) -> Result<Items<u6
 /// The leaf of prices on links, where `priced` are those with the costs of the cutoff row.
 pub fn leaf_of(
     alloc: Global,
-    demands: &Demands,
+    traffic: &Traffic,
     prices: &[u64],
     priced: &[u64],
 ) -> Result<Items<Weight>, OutOfMemory> {
     let mut weights = Items::new(alloc);
     let mut row = 0_usize;
-    for demand in demands.all.as_slice() {
+    for demand in traffic.all.as_slice() {
         let numbers = numbers_of(alloc, demand, priced)?;
         put_rows(&mut weights, row, numbers.as_slice(), demand.rate)?;
         row = row.saturating_add(demand.vertices.max(2));
     }
     put_rows(&mut weights, row, prices, 1)?;
-    if demands.most.is_some() {
-        put_row(&mut weights, row.saturating_add(prices.len()), demands.unit)?;
+    if traffic.most.is_some() {
+        put_row(&mut weights, row.saturating_add(prices.len()), traffic.unit)?;
     }
     Ok(weights)
 }

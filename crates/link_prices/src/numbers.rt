@@ -53,7 +53,7 @@ pub fn dot(first: &[u64], second: &[u64]) -> u64 {
 }
 
 /// The sums, place by place.
-pub fn added(alloc: Global, first: &[u64], second: &[u64]) -> Result<Items<u64>, OutOfMemory> {
+pub fn summed(alloc: Global, first: &[u64], second: &[u64]) -> Result<Items<u64>, OutOfMemory> {
     let mut sums = Items::new(alloc);
     for (place, number) in first.iter().enumerate() {
         sums.push(number.saturating_add(number_at(second, place)))?;

@@ -2,7 +2,7 @@
 
 ghost use Rattle.std.specs.Prelude.{◌≡◌, length};
 
-use crate::demand::{Demand, Demands};
+use crate::demand::{Demand, Traffic};
 use crate::numbers::{dot, number_at, put, repeated};
 use crate::spread::{path_of, sums_of};
 use merlin_model::OutOfMemory;
@@ -40,10 +40,10 @@ pub fn route(alloc: Global, demand: &Demand, prices: &[u64]) -> Result<Items<usi
 }
 
 /// The least paths of all flows at some prices.
-pub fn route_all(alloc: Global, demands: &Demands, prices: &[u64]) -> Result<Routing, OutOfMemory> {
+pub fn route_all(alloc: Global, traffic: &Traffic, prices: &[u64]) -> Result<Routing, OutOfMemory> {
     let mut paths = Items::new(alloc);
-    let mut loads = repeated(alloc, demands.rooms.len(), 0)?;
-    for demand in demands.all.as_slice() {
+    let mut loads = repeated(alloc, traffic.rooms.len(), 0)?;
+    for demand in traffic.all.as_slice() {
         let path = route(alloc, demand, prices)?;
         load(&mut loads, demand, path.as_slice(), true);
         paths.push(path)?;
@@ -52,7 +52,7 @@ pub fn route_all(alloc: Global, demands: &Demands, prices: &[u64]) -> Result<Rou
 }
 
 /// Whether no load is above its room.
-pub fn fits(loads: &[u64], rooms: &[u64]) -> bool {
+pub fn have_room(loads: &[u64], rooms: &[u64]) -> bool {
     for (link, load) in loads.iter().enumerate() {
         if number_at(rooms, link) < *load {
             return false;
@@ -62,10 +62,10 @@ pub fn fits(loads: &[u64], rooms: &[u64]) -> bool {
 }
 
 /// Whether the lengths of walks keep below the cutoff, where they must.
-pub fn is_short(demands: &Demands, loads: &[u64]) -> bool {
-    match demands.most {
+pub fn is_short(traffic: &Traffic, loads: &[u64]) -> bool {
+    match traffic.most {
         None => true,
-        Some(most) => dot(loads, demands.costs.as_slice()) <= most,
+        Some(most) => dot(loads, traffic.costs.as_slice()) <= most,
     }
 }
 
@@ -81,15 +81,15 @@ fn choose(point: &mut Items<bool>, demand: &Demand, path: &[usize]) {
 }
 
 /// The variables of all paths, among so many.
-pub fn point_of(
+pub fn point_along(
     alloc: Global,
-    demands: &Demands,
+    traffic: &Traffic,
     paths: &[Items<usize>],
     variables: usize,
 ) -> Result<Items<bool>, OutOfMemory> {
     let mut point = Items::from_vec(vec![in alloc; false; variables]?);
     for (flow, path) in paths.iter().enumerate() {
-        if let Some(demand) = demands.all.as_slice().get(flow) {
+        if let Some(demand) = traffic.all.as_slice().get(flow) {
             choose(&mut point, demand, path.as_slice());
         }
     }

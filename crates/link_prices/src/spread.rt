@@ -13,7 +13,7 @@ pub const FAR: u64 = u64::MAX;
 
 /// By vertex the least sum, and the number of the edge by which it is reached.
 #[derive(Drop)]
-pub struct Sums {
+pub struct LeastSums {
     pub distance: Items<u64>,
     pub before: Items<u64>,
 }
@@ -27,7 +27,7 @@ pub fn price_of(arc: &Arc, prices: &[u64]) -> u64 {
 }
 
 // Whether some vertex got less, when each edge was followed once.
-fn relax(arcs: &[Arc], prices: &[u64], sums: &mut Sums) -> bool {
+fn relax(arcs: &[Arc], prices: &[u64], sums: &mut LeastSums) -> bool {
     let mut changed = false;
     for (number, arc) in arcs.iter().enumerate() {
         let sum = number_at(sums.distance.as_slice(), arc.from).saturating_add(price_of(
@@ -43,8 +43,8 @@ fn relax(arcs: &[Arc], prices: &[u64], sums: &mut Sums) -> bool {
 }
 
 /// The least sums of a flow at some prices.
-pub fn sums_of(alloc: Global, demand: &Demand, prices: &[u64]) -> Result<Sums, OutOfMemory> {
-    let mut sums = Sums {
+pub fn sums_of(alloc: Global, demand: &Demand, prices: &[u64]) -> Result<LeastSums, OutOfMemory> {
+    let mut sums = LeastSums {
         distance: repeated(alloc, demand.vertices, FAR)?,
         before: repeated(alloc, demand.vertices, FAR)?,
     };
@@ -58,13 +58,17 @@ pub fn sums_of(alloc: Global, demand: &Demand, prices: &[u64]) -> Result<Sums, O
 }
 
 // The number of the edge by which a vertex is reached.
-fn before(sums: &Sums, vertex: usize) -> Option<usize> {
+fn before(sums: &LeastSums, vertex: usize) -> Option<usize> {
     let number = *sums.before.as_slice().get(vertex)?;
     usize::try_from(number).ok()
 }
 
 /// The edges of a flow's least path, those that it must take first; the others from the end backwards.
-pub fn path_of(alloc: Global, demand: &Demand, sums: &Sums) -> Result<Items<usize>, OutOfMemory> {
+pub fn path_of(
+    alloc: Global,
+    demand: &Demand,
+    sums: &LeastSums,
+) -> Result<Items<usize>, OutOfMemory> {
     let mut path = Items::from_slice(alloc, demand.prefix.arcs.as_slice())?;
     let mut vertex = demand.vertices.saturating_sub(1);
     for _step in 0..demand.vertices {

@@ -1,7 +1,7 @@
 //! Prices by subgradient steps with averaged loads (Polyak 1969; the average is that of the volume algorithm, Barahona and Anbil 2000). They
 //! serve where lengths are to be kept below a cutoff: a step goes as far as what is missing to it asks.
 
-use crate::demand::Demands;
+use crate::demand::Traffic;
 use crate::numbers::{dot, number_at, put, repeated, scaled};
 use merlin_model::OutOfMemory;
 use sqlite_items::Items;
@@ -109,15 +109,15 @@ fn keep(alloc: Global, ascent: &mut Ascent, shown: u64) -> Result<(), OutOfMemor
 /// One step after least paths with such loads and costs were found.
 pub fn ascend(
     alloc: Global,
-    demands: &Demands,
+    traffic: &Traffic,
     ascent: &mut Ascent,
     loads: &[u64],
     priced: &[u64],
 ) -> Result<(), OutOfMemory> {
-    let rooms = demands.rooms.as_slice();
+    let rooms = traffic.rooms.as_slice();
     let free = dot(ascent.prices.as_slice(), rooms);
     let shown = dot(loads, priced).saturating_sub(free);
-    let most = match demands.most {
+    let most = match traffic.most {
         None => 0,
         Some(most) => most,
     };
@@ -126,7 +126,7 @@ pub fn ascend(
     step(
         ascent,
         rooms,
-        most.saturating_add(demands.unit).saturating_sub(shown),
+        most.saturating_add(traffic.unit).saturating_sub(shown),
     );
     Ok(())
 }

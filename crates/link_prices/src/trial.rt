@@ -7,11 +7,11 @@ ghost use Rattle.cutoff_program.specs.Flows.{takes};
 
 use crate::breakout::break_out;
 use crate::congestion::{Congestion, negotiate, shorten};
-use crate::demand::{Demands, demands_of, first_variables};
+use crate::demand::{Traffic, first_variables, traffic_of};
 use crate::leaf::leaf_of;
-use crate::numbers::{added, repeated, scale_all};
+use crate::numbers::{repeated, scale_all, summed};
 use crate::pricing::{are_too_dear, even_prices, move_prices};
-use crate::routing::{Routing, fits, is_short, point_of, route_all};
+use crate::routing::{Routing, have_room, is_short, point_along, route_all};
 use crate::subgradient::{Ascent, ascend, start};
 use integer_program::{Fixed, Program};
 use merlin_model::OutOfMemory;
@@ -21,7 +21,8 @@ use merlin_program::MerlinProgram;
 use sqlite_items::Items;
 use std::alloc::Global;
 
-/// What was found: weights of a leaf, a path for each flow, or neither.
+/// What was found: weights of a leaf, a path for each flow by the variables of all, or neither. Paths that overload a link or are too long are
+/// handed out too, where there are no better ones.
 #[derive(Drop)]
 pub enum Trial {
     Leaf(Items<Weight>),
@@ -34,6 +35,7 @@ pub enum Trial {
 enum Found {
     Leaf(Items<Weight>),
     Paths(Routing),
+    Others(Routing),
     Nothing,
 }
 
@@ -77,12 +79,12 @@ enum Judged {
     Neither,
 }
 
-fn judge(demands: &Demands, loads: &[u64], prices: &[u64], priced: &[u64]) -> Judged {
-    let rooms = demands.rooms.as_slice();
-    if fits(loads, rooms) && is_short(demands, loads) {
+fn judge(traffic: &Traffic, loads: &[u64], prices: &[u64], priced: &[u64]) -> Judged {
+    let rooms = traffic.rooms.as_slice();
+    if have_room(loads, rooms) && is_short(traffic, loads) {
         return Judged::Fitting;
     }
-    if are_too_dear(loads, priced, prices, rooms, demands.most) {
+    if are_too_dear(loads, priced, prices, rooms, traffic.most) {
         Judged::TooDear
     } else {
         Judged::Neither
@@ -92,20 +94,20 @@ fn judge(demands: &Demands, loads: &[u64], prices: &[u64], priced: &[u64]) -> Ju
 // Least paths at some prices; then the prices move by factors.
 fn factor_step(
     alloc: Global,
-    demands: &Demands,
+    traffic: &Traffic,
     prices: &mut Items<u64>,
     step: usize,
 ) -> Result<Found, OutOfMemory> {
-    let routing = route_all(alloc, demands, prices.as_slice())?;
+    let routing = route_all(alloc, traffic, prices.as_slice())?;
     let loads = routing.loads.as_slice();
-    match judge(demands, loads, prices.as_slice(), prices.as_slice()) {
+    match judge(traffic, loads, prices.as_slice(), prices.as_slice()) {
         Judged::Fitting => Ok(Found::Paths(routing)),
         Judged::TooDear => {
-            let weights = leaf_of(alloc, demands, prices.as_slice(), prices.as_slice())?;
+            let weights = leaf_of(alloc, traffic, prices.as_slice(), prices.as_slice())?;
             Ok(Found::Leaf(weights))
         }
         Judged::Neither => {
-            move_prices(prices, loads, demands.rooms.as_slice(), step);
+            move_prices(prices, loads, traffic.rooms.as_slice(), step);
             Ok(Found::Nothing)
         }
     }
@@ -113,12 +115,12 @@ fn factor_step(
 
 fn factor_steps(
     alloc: Global,
-    demands: &Demands,
+    traffic: &Traffic,
     prices: &mut Items<u64>,
     steps: usize,
 ) -> Result<Found, OutOfMemory> {
     for step in 0..steps {
-        match factor_step(alloc, demands, prices, step)? {
+        match factor_step(alloc, traffic, prices, step)? {
             Found::Nothing => {}
             found => return Ok(found),
         }
@@ -129,20 +131,20 @@ fn factor_steps(
 // Least paths at the costs and some prices; then the prices take a step of an ascent.
 fn ascent_step(
     alloc: Global,
-    demands: &Demands,
+    traffic: &Traffic,
     ascent: &mut Ascent,
 ) -> Result<Found, OutOfMemory> {
-    let priced = added(alloc, demands.costs.as_slice(), ascent.prices.as_slice())?;
-    let routing = route_all(alloc, demands, priced.as_slice())?;
+    let priced = summed(alloc, traffic.costs.as_slice(), ascent.prices.as_slice())?;
+    let routing = route_all(alloc, traffic, priced.as_slice())?;
     let loads = routing.loads.as_slice();
-    match judge(demands, loads, ascent.prices.as_slice(), priced.as_slice()) {
+    match judge(traffic, loads, ascent.prices.as_slice(), priced.as_slice()) {
         Judged::Fitting => Ok(Found::Paths(routing)),
         Judged::TooDear => {
-            let weights = leaf_of(alloc, demands, ascent.prices.as_slice(), priced.as_slice())?;
+            let weights = leaf_of(alloc, traffic, ascent.prices.as_slice(), priced.as_slice())?;
             Ok(Found::Leaf(weights))
         }
         Judged::Neither => {
-            ascend(alloc, demands, ascent, loads, priced.as_slice())?;
+            ascend(alloc, traffic, ascent, loads, priced.as_slice())?;
             Ok(Found::Nothing)
         }
     }
@@ -150,12 +152,12 @@ fn ascent_step(
 
 fn ascent_steps(
     alloc: Global,
-    demands: &Demands,
+    traffic: &Traffic,
     ascent: &mut Ascent,
     steps: usize,
 ) -> Result<Found, OutOfMemory> {
     for _step in 0..steps {
-        match ascent_step(alloc, demands, ascent)? {
+        match ascent_step(alloc, traffic, ascent)? {
             Found::Nothing => {}
             found => return Ok(found),
         }
@@ -166,21 +168,21 @@ fn ascent_steps(
 // Steps of prices from the last ones on, by the rule that suits what is to be kept.
 fn by_prices(
     alloc: Global,
-    demands: &Demands,
+    traffic: &Traffic,
     kept: &mut LinkPrices,
     steps: usize,
 ) -> Result<Found, OutOfMemory> {
-    if demands.most.is_none() {
-        if kept.by_factor.len() != demands.rooms.len() {
-            kept.by_factor = even_prices(alloc, demands.rooms.as_slice())?;
+    if traffic.most.is_none() {
+        if kept.by_factor.len() != traffic.rooms.len() {
+            kept.by_factor = even_prices(alloc, traffic.rooms.as_slice())?;
         }
-        return factor_steps(alloc, demands, &mut kept.by_factor, steps);
+        return factor_steps(alloc, traffic, &mut kept.by_factor, steps);
     }
-    if kept.by_ascent.len() != demands.rooms.len() {
-        kept.by_ascent = repeated(alloc, demands.rooms.len(), 0)?;
+    if kept.by_ascent.len() != traffic.rooms.len() {
+        kept.by_ascent = repeated(alloc, traffic.rooms.len(), 0)?;
     }
     let mut ascent = start(alloc, kept.by_ascent.as_slice())?;
-    let found = ascent_steps(alloc, demands, &mut ascent, steps)?;
+    let found = ascent_steps(alloc, traffic, &mut ascent, steps)?;
     kept.by_ascent = ascent.best;
     Ok(found)
 }
@@ -188,29 +190,29 @@ fn by_prices(
 // Where negotiation starts: from least paths, with the prices of an ascent remembered where there are some.
 fn by_rerouting(
     alloc: Global,
-    demands: &Demands,
+    traffic: &Traffic,
     kept: &LinkPrices,
     rounds: usize,
 ) -> Result<Found, OutOfMemory> {
-    let zeros = repeated(alloc, demands.rooms.len(), 0)?;
-    let remembered = match demands.most {
-        None => repeated(alloc, demands.rooms.len(), 0)?,
-        Some(_) => added(alloc, zeros.as_slice(), kept.by_ascent.as_slice())?,
+    let zeros = repeated(alloc, traffic.rooms.len(), 0)?;
+    let remembered = match traffic.most {
+        None => repeated(alloc, traffic.rooms.len(), 0)?,
+        Some(_) => summed(alloc, zeros.as_slice(), kept.by_ascent.as_slice())?,
     };
     let mut congestion = Congestion {
         remembered,
-        penalty: demands.unit,
+        penalty: traffic.unit,
     };
-    let mut routing = route_all(alloc, demands, demands.costs.as_slice())?;
-    if !negotiate(alloc, demands, &mut routing, &mut congestion, rounds)? {
-        return Ok(Found::Nothing);
+    let mut routing = route_all(alloc, traffic, traffic.costs.as_slice())?;
+    if !negotiate(alloc, traffic, &mut routing, &mut congestion, rounds)? {
+        return Ok(Found::Others(routing));
     }
-    if demands.most.is_some() {
+    if traffic.most.is_some() {
         let strict = Congestion {
             remembered: zeros,
             penalty: STRICT,
         };
-        shorten(alloc, demands, &mut routing, &strict, rounds)?;
+        shorten(alloc, traffic, &mut routing, &strict, rounds)?;
     }
     Ok(Found::Paths(routing))
 }
@@ -218,50 +220,49 @@ fn by_rerouting(
 // Rerouting within a part of all rooms, in parts of 16.
 fn by_squeezing(
     alloc: Global,
-    demands: &mut Demands,
+    traffic: &mut Traffic,
     kept: &LinkPrices,
     part: u64,
 ) -> Result<Found, OutOfMemory> {
-    let whole = Items::from_slice(alloc, demands.rooms.as_slice())?;
-    scale_all(&mut demands.rooms, part, 16, 0);
-    let found = by_rerouting(alloc, demands, kept, SQUEEZED_ROUNDS)?;
-    demands.rooms = whole;
+    let whole = Items::from_slice(alloc, traffic.rooms.as_slice())?;
+    scale_all(&mut traffic.rooms, part, 16, 0);
+    let found = by_rerouting(alloc, traffic, kept, SQUEEZED_ROUNDS)?;
+    traffic.rooms = whole;
     Ok(found)
 }
 
 // The closest rooms first.
 fn by_closer_rooms(
     alloc: Global,
-    demands: &mut Demands,
+    traffic: &mut Traffic,
     kept: &LinkPrices,
 ) -> Result<Found, OutOfMemory> {
     for part in [12, 14, 15] {
-        match by_squeezing(alloc, demands, kept, part)? {
-            Found::Nothing => {}
-            found => return Ok(found),
+        if let Found::Paths(routing) = by_squeezing(alloc, traffic, kept, part)? {
+            return Ok(Found::Paths(routing));
         }
     }
     Ok(Found::Nothing)
 }
 
 // Local search from the paths of the last prices.
-fn by_moves(alloc: Global, demands: &Demands, kept: &LinkPrices) -> Result<Found, OutOfMemory> {
-    let mut routing = route_all(alloc, demands, kept.by_factor.as_slice())?;
-    if break_out(alloc, demands, &mut routing, TURNS)? {
+fn by_moves(alloc: Global, traffic: &Traffic, kept: &LinkPrices) -> Result<Found, OutOfMemory> {
+    let mut routing = route_all(alloc, traffic, kept.by_factor.as_slice())?;
+    if break_out(alloc, traffic, &mut routing, TURNS)? {
         Ok(Found::Paths(routing))
     } else {
-        Ok(Found::Nothing)
+        Ok(Found::Others(routing))
     }
 }
 
 // Points where loads alone decide.
-fn by_loads(alloc: Global, demands: &mut Demands, kept: &LinkPrices) -> Result<Found, OutOfMemory> {
-    match by_closer_rooms(alloc, demands, kept)? {
+fn by_loads(alloc: Global, traffic: &mut Traffic, kept: &LinkPrices) -> Result<Found, OutOfMemory> {
+    match by_closer_rooms(alloc, traffic, kept)? {
         Found::Nothing => {}
         found => return Ok(found),
     }
-    match by_rerouting(alloc, demands, kept, ROUNDS)? {
-        Found::Nothing => by_moves(alloc, demands, kept),
+    match by_rerouting(alloc, traffic, kept, ROUNDS)? {
+        Found::Others(_) => by_moves(alloc, traffic, kept),
         found => Ok(found),
     }
 }
@@ -279,15 +280,19 @@ fn is_free(fixed: &Fixed) -> bool {
 // What is found of all flows, as it is handed out.
 fn trial_of(
     alloc: Global,
-    demands: &Demands,
+    traffic: &Traffic,
     found: Found,
     variables: usize,
 ) -> Result<Trial, OutOfMemory> {
     match found {
         Found::Leaf(weights) => Ok(Trial::Leaf(weights)),
         Found::Paths(routing) => {
-            let point = point_of(alloc, demands, routing.paths.as_slice(), variables)?;
-            Ok(Trial::Paths(point))
+            let paths = routing.paths.as_slice();
+            Ok(Trial::Paths(point_along(alloc, traffic, paths, variables)?))
+        }
+        Found::Others(routing) => {
+            let paths = routing.paths.as_slice();
+            Ok(Trial::Paths(point_along(alloc, traffic, paths, variables)?))
         }
         Found::Nothing => Ok(Trial::Nothing),
     }
@@ -296,31 +301,31 @@ fn trial_of(
 // Points with much effort, by the rule that suits what is to be kept.
 fn by_points(
     alloc: Global,
-    demands: &mut Demands,
+    traffic: &mut Traffic,
     kept: &LinkPrices,
 ) -> Result<Found, OutOfMemory> {
-    match demands.most {
-        None => by_loads(alloc, demands, kept),
-        Some(_) => by_rerouting(alloc, demands, kept, ROUNDS),
+    match traffic.most {
+        None => by_loads(alloc, traffic, kept),
+        Some(_) => by_rerouting(alloc, traffic, kept, ROUNDS),
     }
 }
 
 // The trials in order, with more effort where nothing is fixed.
 fn find(
     alloc: Global,
-    demands: &mut Demands,
+    traffic: &mut Traffic,
     kept: &mut LinkPrices,
     is_whole: bool,
 ) -> Result<Found, OutOfMemory> {
     let steps = if is_whole { STEPS } else { STEPS_BELOW };
-    match by_prices(alloc, demands, kept, steps)? {
+    match by_prices(alloc, traffic, kept, steps)? {
         Found::Nothing => {}
         found => return Ok(found),
     }
     if is_whole {
-        by_points(alloc, demands, kept)
+        by_points(alloc, traffic, kept)
     } else {
-        by_rerouting(alloc, demands, kept, ROUNDS_BELOW)
+        by_rerouting(alloc, traffic, kept, ROUNDS_BELOW)
     }
 }
 
@@ -334,7 +339,7 @@ pub fn try_prices(
 ) -> Result<Trial, OutOfMemory>
     requires takes { Takes (takes program.now.problem.objective) (option_copied cutoff) }
 {
-    let mut demands = demands_of(alloc, program, cutoff, fixed, kept.first.as_slice())?;
-    let found = find(alloc, &mut demands, kept, is_free(fixed))?;
-    trial_of(alloc, &demands, found, program.variables())
+    let mut traffic = traffic_of(alloc, program, cutoff, fixed, kept.first.as_slice())?;
+    let found = find(alloc, &mut traffic, kept, is_free(fixed))?;
+    trial_of(alloc, &traffic, found, program.variables())
 }

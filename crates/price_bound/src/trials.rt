@@ -1,15 +1,15 @@
 //! What prices on several links and rerouting find, each candidate tested before it is answered.
 
-ghost use Rattle.std.specs.Prelude.{ℕ, ◌≡◌, ◌≢◌, length, true, Some, IfOk};
+ghost use Rattle.std.specs.Prelude.{ℕ, ◌≡◌, ◌≢◌, length, true, false, Some, IfOk, IfSome};
 ghost use Rattle.std.specs.Option.{option_copied};
 ghost use Rattle.merlin_model.specs.Trees.{fixed_at};
 ghost use Rattle.cutoff_program.specs.Flows.{variables_of};
-ghost use Rattle.integer_program.specs.declared.relaxation.Verdict.TheVariants.{Undecided};
-ghost use Rattle.price_bound.specs.Asked.{IsBoxAsked, IsLawfulAt};
+ghost use Rattle.price_bound.specs.Asked.{IsBoxAsked};
+ghost use Rattle.price_bound.specs.Trials.{AreNeatPaths, IsTested};
 
 use crate::costs::{CostsFound, find};
 use certificate::{Workspace, leaf_refutes};
-use integer_program::{Fixed, Program, Verdict, is_solution};
+use integer_program::{Fixed, is_solution};
 use link_prices::{LinkPrices, Trial, try_prices};
 use merlin_model::OutOfMemory;
 use merlin_model::certificate::Weight;
@@ -18,74 +18,99 @@ use merlin_program::MerlinProgram;
 use sqlite_items::{Items, at};
 use std::alloc::Global;
 
-// The box of so many variables that fixes to 0 what a point does not choose.
-fn box_of(alloc: Global, point: &[bool], variables: usize) -> Result<Fixed, OutOfMemory>
-    ensures size { IfOk result (λ fixed. length fixed ≡ variables) }
-    ensures none { IfOk result (λ fixed. (k : ℕ) → fixed_at fixed k ≢ Some true) }
-{
-    let mut fixed = Fixed::free(alloc, variables)?;
-    for variable in 0..variables {
-        if at(point, variable) != Some(&true) {
-            fixed.set(variable, Some(false));
-        }
-    }
-    Ok(fixed)
+/// What comes of candidates: weights that refute the box, a neat solution, paths that are none, or nothing.
+#[derive(Drop)]
+pub enum Tested {
+    Refuting(Items<Weight>),
+    Better(Items<bool>),
+    Others(Items<bool>),
+    Nothing,
 }
 
-// The point of least paths among the edges of a point, if it is better than the cutoff.
-fn by_paths(
+// The box that fixes to 0 what another does, and what a point does not choose.
+fn box_within(alloc: Global, fixed: &Fixed, point: &[bool]) -> Result<Fixed, OutOfMemory>
+    ensures size { IfOk result (λ within. length within ≡ length fixed.now) }
+    ensures none { IfOk result (λ within. (k : ℕ) → fixed_at within k ≢ Some true) }
+    ensures zeros { IfOk result (λ within. (k : ℕ) → fixed_at fixed.now k ≡ Some false →
+        fixed_at within k ≡ Some false) }
+{
+    let mut within = Fixed::free(alloc, fixed.len())?;
+    for variable in 0..fixed.len() {
+        if at(point, variable) != Some(&true) || fixed.get(variable) == Some(false) {
+            within.set(variable, Some(false));
+        }
+    }
+    Ok(within)
+}
+
+// Paths of least cost among the edges of a point that a box allows, if each flow has one.
+fn paths_within(
     alloc: Global,
     program: &MerlinProgram,
     cutoff: Option<&Value>,
     fixed: &Fixed,
     taken: &[bool],
-) -> Result<Verdict, OutOfMemory>
-    requires asked { IsBoxAsked program.now.problem (option_copied cutoff) fixed.now }
-    requires undecided { let at = option_copied cutoff in
-        IsLawfulAt program.now.problem at fixed.now Undecided }
+) -> Result<Option<Items<bool>>, OutOfMemory>
+    requires { IsBoxAsked program.now.problem (option_copied cutoff) fixed.now }
     ensures { let problem = program.now.problem in
         let at = option_copied cutoff.entry in
-        IfOk result (IsLawfulAt problem at fixed.now) }
+        IfOk result (λ found. IfSome found (AreNeatPaths problem at fixed.now)) }
 {
     price_candidates::candidates::tried_points_are_neat();
-    let within = box_of(alloc, taken, fixed.len())?;
+    let within = box_within(alloc, fixed, taken)?;
     match find(alloc, program, cutoff, &within)? {
-        CostsFound::Cut(_) => Ok(Verdict::Undecided),
-        CostsFound::Paths(costs) => {
-            if is_solution(program, cutoff, costs.point.as_slice()) {
-                Ok(Verdict::Better(costs.point))
+        CostsFound::Cut(_) => Ok(None),
+        CostsFound::Paths(costs) => Ok(Some(costs.point)),
+    }
+}
+
+// Such paths, and whether they are better than the cutoff.
+fn test_paths(
+    alloc: Global,
+    program: &MerlinProgram,
+    cutoff: Option<&Value>,
+    fixed: &Fixed,
+    taken: &[bool],
+) -> Result<Tested, OutOfMemory>
+    requires { IsBoxAsked program.now.problem (option_copied cutoff) fixed.now }
+    ensures { let problem = program.now.problem in
+        let at = option_copied cutoff.entry in
+        IfOk result (IsTested problem at fixed.now) }
+{
+    match paths_within(alloc, program, cutoff, fixed, taken)? {
+        None => Ok(Tested::Nothing),
+        Some(point) => {
+            if is_solution(program, cutoff, point.as_slice()) {
+                Ok(Tested::Better(point))
             } else {
-                Ok(Verdict::Undecided)
+                Ok(Tested::Others(point))
             }
         }
     }
 }
 
 // Weights, if they refute the box.
-fn by_weights(
+fn test_weights(
     program: &MerlinProgram,
     cutoff: Option<&Value>,
     fixed: &Fixed,
     workspace: &mut Workspace,
     weights: Items<Weight>,
-) -> Verdict
+) -> Tested
     requires asked { IsBoxAsked program.now.problem (option_copied cutoff) fixed.now }
-    requires undecided { let at = option_copied cutoff in
-        IsLawfulAt program.now.problem at fixed.now Undecided }
     requires room { workspace.old ≡ length (variables_of program.now.problem) }
     ensures same { workspace.new ≡ workspace.old }
-    ensures lawful { let problem = program.now.problem in
-        let at = option_copied cutoff.entry in
-        IsLawfulAt problem at fixed.now result }
+    ensures tested { let at = option_copied cutoff.entry in
+        IsTested program.now.problem at fixed.now result }
 {
     if leaf_refutes(program, cutoff, fixed, workspace, weights.as_slice()) {
-        Verdict::Closed(weights)
+        Tested::Refuting(weights)
     } else {
-        Verdict::Undecided
+        Tested::Nothing
     }
 }
 
-/// What trials decide of a box that may be left undecided.
+/// What comes of the candidates for a box.
 pub fn by_trials(
     alloc: Global,
     program: &MerlinProgram,
@@ -93,19 +118,17 @@ pub fn by_trials(
     fixed: &Fixed,
     workspace: &mut Workspace,
     prices: &mut LinkPrices,
-) -> Result<Verdict, OutOfMemory>
+) -> Result<Tested, OutOfMemory>
     requires asked { IsBoxAsked program.now.problem (option_copied cutoff) fixed.now }
-    requires undecided { let at = option_copied cutoff in
-        IsLawfulAt program.now.problem at fixed.now Undecided }
     requires room { workspace.old ≡ length (variables_of program.now.problem) }
     ensures same { workspace.new ≡ workspace.old }
-    ensures lawful { let problem = program.now.problem in
+    ensures tested { let problem = program.now.problem in
         let at = option_copied cutoff.entry in
-        IfOk result (IsLawfulAt problem at fixed.now) }
+        IfOk result (IsTested problem at fixed.now) }
 {
     match try_prices(alloc, program, cutoff, fixed, prices)? {
-        Trial::Leaf(weights) => Ok(by_weights(program, cutoff, fixed, workspace, weights)),
-        Trial::Paths(taken) => by_paths(alloc, program, cutoff, fixed, taken.as_slice()),
-        Trial::Nothing => Ok(Verdict::Undecided),
+        Trial::Leaf(weights) => Ok(test_weights(program, cutoff, fixed, workspace, weights)),
+        Trial::Paths(taken) => test_paths(alloc, program, cutoff, fixed, taken.as_slice()),
+        Trial::Nothing => Ok(Tested::Nothing),
     }
 }

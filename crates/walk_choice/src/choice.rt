@@ -7,7 +7,7 @@ ghost use Rattle.cutoff_program.specs.Flows.{variables_of};
 ghost use Rattle.cutoff_program.specs.Limits.{IsProblem};
 
 use crate::copies::copy_of;
-use crate::crowding::{is_over, loads_of, most_crowded};
+use crate::crowding::{is_over, loads_along, most_crowded};
 use crate::ways::{keep_to, point_of, ways_of};
 use cutoff_program::flow::{Problem, Variable};
 use integer_program::Fixed;
@@ -209,7 +209,7 @@ impl WalkChoice {
         let paths = self.paths(alloc, point.as_slice())?;
         let links = self.problem.links.as_slice();
         let variables = self.variables.as_slice();
-        let loads = loads_of(alloc, variables, paths.as_slice(), links.len())?;
+        let loads = loads_along(alloc, variables, paths.as_slice(), links.len())?;
         match most_crowded(links, loads.as_slice()) {
             Some(link) => self.fork_over(alloc, paths.as_slice(), link, point, ways, fixed),
             None => Ok(None),

@@ -20,7 +20,7 @@ fn add_path(loads: &mut Items<u64>, variables: &[Variable], path: &[usize]) {
 }
 
 /// What some paths put on each of so many links.
-pub fn loads_of(
+pub fn loads_along(
     alloc: Global,
     variables: &[Variable],
     paths: &[Items<usize>],

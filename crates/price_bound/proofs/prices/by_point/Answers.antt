@@ -15,8 +15,8 @@ returns-in-None-clause-lawful c =
     let better = c.closed_boxes_are_decided.ensures problem cutoff box found.at found.paths c.args.point c.args.program.now.is c.requires.asked.in_box found.tried found.of (c.has_open.ensures.none c.if-has_open.false) (λ row weight h. rows row h weight) in
     (better.solution, better.is_neat)
 
-pub by_trials-requires-clause-undecided : goal.by_trials-requires-clause-undecided
-by_trials-requires-clause-undecided c =
+pub returns-then-has_open-clause-lawful : goal.returns-then-has_open-clause-lawful
+returns-then-has_open-clause-lawful c =
     let problem = c.args.program.now.problem in
     let cutoff = option_copied c.args.cutoff in
     let box = c.args.fixed.now in

@@ -191,7 +191,8 @@ fn entries_under(
 ) -> Result<Vec<NamedRate>, DemandFault>
     ensures ok { IfOk result (λ entries. HasEntries key.now rate_key.now
         (view value.now) entries.items) }
-    ensures err { IfErr result (FailsAsShape (IsWrongEntryArray key.now rate_key.now (view value.now))) }
+    ensures err { IfErr result (FailsAsShape
+        (IsWrongEntryArray key.now rate_key.now (view value.now))) }
 {
     let Some(array) = items_under(value, key) else {
         return Err(shape_fault(alloc, key));

@@ -169,7 +169,7 @@ fn of_budget(
     requires some { 0 < budget }
     requires most { budget ≤ MAX_NODES }
 {
-    merlin_compile::laws::checked_policies_are_sound();
+    policy_configuration::laws::checked_policies_are_sound();
     let _sound = checked.statements();
     let _numbers = checked.automata();
     let rates = checked.rates().min.as_slice();

@@ -3,7 +3,7 @@
 ghost use Rattle.std.specs.Prelude.{◌<◌, ◌≤◌, length, IfSome};
 ghost use Rattle.merlin_model.specs.Assignments.{AreAllEnds};
 ghost use Rattle.policy_check.specs.declared.guarantees.TheConstants.{MAX_GUARANTEES};
-ghost use Rattle.merlin.specs.Configuring.{IsCheckOfSome};
+ghost use Rattle.merlin_compile.specs.Provisions.{IsCheckOfSome};
 
 use crate::guaranteed::{Asked, add_value, objective_of};
 use crate::lines::Lines;

@@ -9,7 +9,7 @@ use Rattle.bound_search.specs.declared.outcome.Best.{Best}
 use Rattle.bound_search.specs.declared.boxes.Boxes.{Boxes}
 use Rattle.bound_search.proofs.Roots.{none-mapped}
 use Rattle.bound_search.specs.Descent.{IsBest, IsBestSoFar, IsRootTree, count_points, cutoff_of_best, one_if}
-use Rattle.bound_search.specs.Growing.{IsGrown, IsWhole}
+use Rattle.bound_search.specs.Growing.{IsGrownTree, IsWhole}
 use Rattle.bound_search.specs.Outcomes.{HasNone, IsLeastPoint}
 use Rattle.bound_search.proofs.Trees.{kept_refutes}
 
@@ -176,8 +176,8 @@ root-tree program easy chose budget left boxes after tree some root w = record {
   spent = λ e. let s = grown.size in let l = grown.spent e in omega arith;
 }
   where
-    grown : IsGrown program easy chose (root_box program) (budget - 1) left tree
-    grown = subst (λ box. IsGrown program easy chose box (budget - 1) left tree) root w.grown
+    grown : IsGrownTree program easy chose (root_box program) (budget - 1) left tree
+    grown = subst (λ box. IsGrownTree program easy chose box (budget - 1) left tree) root w.grown
 
 pub falls : (K : Type 0) (instance : Option K → Program) (neat : List Bool → Type 0) (takes : K → Bool) (below : K → K → Bool) (value : List Bool → K) (cutoff old : Option K) (point : List Bool) (z : K) →
     HasCutoffs K instance takes below value → cutoff ≡ old → Takes takes old → ((q : List Bool) → length q ≡ variables (instance None) → IsTrue (takes (value q))) →

@@ -5,7 +5,7 @@ use Rattle.merlin_model.specs.declared.certificate.Tree.{Tree, Leaf, Split, Spli
 use Rattle.merlin_model.specs.Programs.{Program}
 use Rattle.merlin_model.specs.Trees.{fix, IsOpen, IsSoundNode, Node, Leaf_node, Split_node, Open_end, nodes_of, nodes_of-Split, IsKeptNode, has_open_end, is_open_end}
 use Rattle.bound_search.specs.declared.boxes.Boxes.{Boxes}
-use Rattle.bound_search.specs.Growing.{AreKept, AreChosen, IsChosenAt, IsGrown, IsWhole}
+use Rattle.bound_search.specs.Growing.{AreKept, AreChosen, IsChosenAt, IsGrownTree, IsWhole}
 use Rattle.bound_search.specs.Boxes.{AreBoxes, with_place}
 use Rattle.bound_search.proofs.BoxLaws.{refix, unfix}
 
@@ -32,8 +32,8 @@ has_node Unclosed box = omega arith
 
 pub grown-split : (program : Program) (easy : List (Option Bool) → Type 0) (chose : List (Option Bool) → ℕ → Type 0) (box : List (Option Bool)) (variable before between after : ℕ) (low high : Tree) →
     IsOpen program box variable → (easy box → ⊥) → IsChosenAt program chose box variable → 2 ≤ before →
-    IsGrown program easy chose (fix box variable false) (before - 2) between low → IsGrown program easy chose (fix box variable true) between after high →
-    IsGrown program easy chose box before after (Split variable low high)
+    IsGrownTree program easy chose (fix box variable false) (before - 2) between low → IsGrownTree program easy chose (fix box variable true) between after high →
+    IsGrownTree program easy chose box before after (Split variable low high)
 grown-split program easy chose box variable before between after low high is_open hard choice room l h = record {
   kept = subst (AreKept program easy) (sym nodes) ((is_open, hard), all_append _ (nodes_of low (fix box variable false)) (nodes_of high (fix box variable true)) l.kept h.kept);
   chosen = subst (AreChosen program chose) (sym nodes) (choice, all_append _ (nodes_of low (fix box variable false)) (nodes_of high (fix box variable true)) l.chosen h.chosen);
@@ -85,10 +85,10 @@ pub whole-split : (program : Program) (easy : List (Option Bool) → Type 0) (ch
     b3 ≡ with_place b2 variable (Some true) → IsWhole program easy chose b3 b4 between after high →
     b5 ≡ with_place b4 variable None → tree ≡ Split variable low high → IsWhole program easy chose b b5 before after tree
 whole-split program easy chose b b1 b2 b3 b4 b5 variable before between after low high tree are is_open hard answered room e1 l e3 h e5 is = record {
-  grown = subst (IsGrown program easy chose b.plain before after) (sym is)
+  grown = subst (IsGrownTree program easy chose b.plain before after) (sym is)
       (grown-split program easy chose b.plain variable before between after low high is_open hard (record { shut = b.shut; is_shut = are.shut; answered = answered }) room
-      (subst (λ x. IsGrown program easy chose x.plain (before - 2) between low) e1 l.grown)
-      (subst (λ x. IsGrown program easy chose x.plain between after high) half h.grown));
+      (subst (λ x. IsGrownTree program easy chose x.plain (before - 2) between low) e1 l.grown)
+      (subst (λ x. IsGrownTree program easy chose x.plain between after high) half h.grown));
   same = e5 ∙ ap (λ x. with_place x variable None) (h.same ∙ half) ∙ unfix program b variable (Some true) are is_open;
 }
   where

@@ -29,7 +29,7 @@ abbrev pub AreChosen : Program → (List (Option Bool) → ℕ → Type 0) → L
 AreChosen program chose nodes = AllByRecursion (λ node. IsChosenNode program chose node.0 node.1) nodes
 
 -- The tree that was grown over a box, with so many nodes left before and after. An end is open only where the nodes are spent.
-pub record IsGrown (program : Program) (easy : List (Option Bool) → Type 0) (chose : List (Option Bool) → ℕ → Type 0) (box : List (Option Bool)) (before after : ℕ) (tree : Tree) : Type 0 where
+pub record IsGrownTree (program : Program) (easy : List (Option Bool) → Type 0) (chose : List (Option Bool) → ℕ → Type 0) (box : List (Option Bool)) (before after : ℕ) (tree : Tree) : Type 0 where
   pub kept : AreKept program easy (nodes_of tree box)
   pub chosen : AreChosen program chose (nodes_of tree box)
   pub size : after + length (nodes_of tree box) ≡ before + 1
@@ -37,7 +37,7 @@ pub record IsGrown (program : Program) (easy : List (Option Bool) → Type 0) (c
 
 -- a whole tree, with the boxes as before
 pub record IsWhole (program : Program) (easy : List (Option Bool) → Type 0) (chose : List (Option Bool) → ℕ → Type 0) (boxes boxes_after : Boxes) (before after : ℕ) (tree : Tree) : Type 0 where
-  pub grown : IsGrown program easy chose boxes.plain before after tree
+  pub grown : IsGrownTree program easy chose boxes.plain before after tree
   pub same : boxes_after ≡ boxes
 
 -- a whole tree, or a neat solution

@@ -1,9 +1,10 @@
 //! A line under construction. One buffer serves all lines of a text, each piece is written to its end.
 
-ghost use Rattle.std.specs.Prelude.{◌≡◌, ◌<◌, ◌++◌, ◌∷◌, [], ℕ, List, OnOk, IfOk, false};
-ghost use Rattle.std.specs.Fmt.{decimal, digit_glyph};
+ghost use Rattle.std.specs.Prelude.{◌≡◌, ◌++◌, ◌∷◌, [], ℕ, List, OnOk, IfOk};
+ghost use Rattle.std.specs.Fmt.{decimal};
 ghost use Rattle.merlin_base.specs.Addresses.{mac_text, ip_text};
 
+use crate::addresses::mac_bytes;
 use itoa::Buffer;
 use merlin_base::{Name, OutOfMemory, name_from};
 use std::alloc::Global;
@@ -19,44 +20,6 @@ impl Model for Line {
     ghost Value = { List ℕ };
 
     ghost view = { λ line. line.text.items };
-}
-
-// A hexadecimal digit, in lower case.
-fn hex_digit(value: u8) -> u8
-    requires { value < 16 }
-    ensures { result ≡ digit_glyph false value }
-{
-    if value < 10 {
-        b'0' + value
-    } else {
-        b'a' + (value - 10)
-    }
-}
-
-// An Ethernet address, of which the lowest 48 bits count.
-fn mac_digits(eth: u64) -> [u8; 17]
-    ensures { result ≡ mac_text eth }
-{
-    let [_, _, a, b, c, d, e, f] = eth.to_be_bytes();
-    [
-        hex_digit(a / 16),
-        hex_digit(a % 16),
-        b':',
-        hex_digit(b / 16),
-        hex_digit(b % 16),
-        b':',
-        hex_digit(c / 16),
-        hex_digit(c % 16),
-        b':',
-        hex_digit(d / 16),
-        hex_digit(d % 16),
-        b':',
-        hex_digit(e / 16),
-        hex_digit(e % 16),
-        b':',
-        hex_digit(f / 16),
-        hex_digit(f % 16),
-    ]
 }
 
 impl Line {
@@ -108,7 +71,7 @@ impl Line {
     pub(crate) fn mac(&mut self, eth: u64) -> Result<(), OutOfMemory>
         ensures { OnOk result (self.new ≡ self.old ++ mac_text eth) }
     {
-        self.text.extend_from_slice(&mac_digits(eth))?;
+        self.text.extend_from_slice(&mac_bytes(eth))?;
         Ok(())
     }
 

@@ -9,14 +9,14 @@ use Rattle.fair_share.specs.declared.entry.NamedRate.{NamedRate}
 use Rattle.fair_share.specs.declared.entry.ElementPart.{ElementPart}
 use Rattle.fair_share.specs.declared.entry.PartFault.{PartFault}
 use Rattle.fair_share.specs.declared.entry.PartFault.TheVariants as part
-use Rattle.fair_share.specs.Json.{HasArray}
+use Rattle.topology_shape.specs.Json.{HasItems}
 use Rattle.fair_share.specs.Format.{IsEntryOf, HasEntries}
-use Rattle.fair_share.specs.Shape.{IsWrongPart, element_words, IsWrongArray}
+use Rattle.fair_share.specs.Shape.{IsWrongPart, entry_words, IsWrongEntryArray}
 use Rattle.fair_share.specs.declared.entry.NamedRates.{NamedRates}
 use Rattle.fair_share.specs.Reading.{AreWritten, AreRefused, RefusesDemands}
-use Rattle.fair_share.specs.Failing.{FailsAs, FailsAsPart, FailsAsUnknown, IsLawfulRate}
+use Rattle.fair_share.specs.Failing.{FailsAsShape, FailsAsPart, FailsAsUnknown, IsLawfulRate}
 
-pub fails-weaker : (P Q : List ℕ → Type 0) → ((words : List ℕ) → P words → Q words) → (fault : DemandFault) → FailsAs P fault → FailsAs Q fault
+pub fails-weaker : (P Q : List ℕ → Type 0) → ((words : List ℕ) → P words → Q words) → (fault : DemandFault) → FailsAsShape P fault → FailsAsShape Q fault
 fails-weaker P Q f Json h = h
 fails-weaker P Q f (Shape what) h = f what h
 fails-weaker P Q f (TooLarge what count) h = h
@@ -51,13 +51,13 @@ viewed-more view vs i v l e = by vs i l e
     by (u ∷ us) zero l e = ap (λ w. view w ∷ []) (sym e)
     by (u ∷ us) (suc k) l e = let one : suc k + 1 ≡ suc (k + 1) = omega arith in ap (λ n. take n (view u ∷ map view us)) one ∙ ap (λ z. view u ∷ z) (by us k (omega arith) e)
 
-module _ {V : Type 0} (view : V → Data) (key rate_key : List ℕ) (d : Data) (vs : List V) (has : HasArray key d (map view vs)) where
+module _ {V : Type 0} (view : V → Data) (key rate_key : List ℕ) (d : Data) (vs : List V) (has : HasItems key d (map view vs)) where
   pub one-more-entry : (entries : List NamedRate) (i : ℕ) (v : V) (entry : NamedRate) → i < length vs → v ≡ get_or vs i v → AllZip (IsEntryOf rate_key) (take i (map view vs)) entries → IsEntryOf rate_key (view v) entry →
       AllZip (IsEntryOf rate_key) (take (i + 1) (map view vs)) (entries ++ entry ∷ [])
   one-more-entry entries i v entry l e z is = subst (λ (front : List Data). AllZip (IsEntryOf rate_key) front (entries ++ entry ∷ [])) (sym (viewed-more view vs i v l e)) (zip-push (IsEntryOf rate_key) (take i (map view vs)) entries (view v) entry z is)
 
   pub wrong-entry : (entries : List NamedRate) (i : ℕ) (v : V) (part : ElementPart) (what : List ℕ) → i < length vs → v ≡ get_or vs i v → AllZip (IsEntryOf rate_key) (take i (map view vs)) entries → IsWrongPart rate_key (view v) part →
-      what ≡ element_words key rate_key i part → IsWrongArray key rate_key d what
+      what ≡ entry_words key rate_key i part → IsWrongEntryArray key rate_key d what
   wrong-entry entries i v part what l e z wrong words = inr (
     map view vs,
     has,
@@ -87,7 +87,7 @@ lawful key rate_key d entries has = by has.0 entries has.2
     by [] [] z = tt
     by [] (e ∷ es) z = absurd z
     by (i ∷ items) [] z = absurd z
-    by (i ∷ items) (e ∷ es) z = ((z.0.name.form, z.0.rate.form.few), by items es z.1)
+    by (i ∷ items) (e ∷ es) z = ((z.0.name.1, z.0.rate.form.few), by items es z.1)
 
 pub unknown-weaker : (P Q : List ℕ → Type 0) → ((name : List ℕ) → P name → Q name) → (fault : DemandFault) → FailsAsUnknown P fault → FailsAsUnknown Q fault
 unknown-weaker P Q f Json h = h

@@ -11,7 +11,7 @@ use Rattle.fair_share.specs.declared.entry.NamedRates.{NamedRates}
 use Rattle.fair_share.specs.Shares.{Demands, IsForest, HavePlaces, IsDemands, demand_names}
 use Rattle.fair_share.specs.declared.fault.DemandFault.{DemandFault}
 use Rattle.fair_share.specs.declared.fault.DemandFault.TheVariants.{Json, Shape, TooLarge, DuplicateName, UnknownCap, OutOfMemory}
-use Rattle.fair_share.specs.Reading.{AreRefused, names_written, all_names, AreFew, IsPlaceOf, IsCapOf, IsTenantOf, AreCapsOf, AreTenantsOf, AreDemandsOf, IsFirstUnknown, AreKnown, names_before}
+use Rattle.fair_share.specs.Reading.{AreRefused, names_written, all_names, AreFew, IsPlaceOfCap, IsCapOf, IsTenantOf, AreCapsOf, AreTenantsOf, AreDemandsOf, IsFirstUnknown, AreKnown, names_before}
 use Rattle.fair_share.specs.Failing.{IsLawfulRate, AreLawful, FailsAsUnknown}
 
 -- Lists that grow at their end.
@@ -71,7 +71,7 @@ map-pushed (c ∷ caps) cap = ap (λ z. c.name ∷ z) (map-pushed caps cap)
 pub caps-none : (es : List NamedRate) (caps : List Cap) → caps ≡ [] → AreCapsSoFar es 0 caps
 caps-none es caps e = subst (AreCapsSoFar es 0) (sym e) (record { as_many = refl; names = refl; each = λ c x cap s t. let no : ⊥ = cc in absurd no })
 
-pub caps-push : (es : List NamedRate) (n : ℕ) (caps after : List Cap) (e : NamedRate) (cap : Cap) → AreCapsSoFar es n caps → n < length es → e ≡ get_or es n e → cap.name ≡ e.name → cap.rate ≡ e.rate → IsPlaceOf (map (λ c. c.name) caps) e.under cap.under →
+pub caps-push : (es : List NamedRate) (n : ℕ) (caps after : List Cap) (e : NamedRate) (cap : Cap) → AreCapsSoFar es n caps → n < length es → e ≡ get_or es n e → cap.name ≡ e.name → cap.rate ≡ e.rate → IsPlaceOfCap (map (λ c. c.name) caps) e.under cap.under →
     after ≡ caps ++ cap ∷ [] → AreCapsSoFar es (n + 1) after
 caps-push es n caps after e cap so l is name rate under pushed = subst (AreCapsSoFar es (n + 1)) (sym pushed) (record {
   as_many = (let a = so.as_many in let b = long-pushed caps cap in omega arith);
@@ -88,7 +88,7 @@ caps-push es n caps after e cap so l is name rate under pushed = subst (AreCapsS
         let here : c ≡ n = h.0 ∙ so.as_many in
         let which : e ≡ x = ap (λ o. unwrap_or o e) (sym at ∙ ap (slice_get es) (sym here) ∙ s) in
         subst (λ k. IsCapOf (take k (names_written es)) x y) (sym here) (subst (λ z. IsCapOf (take n (names_written es)) z y) which (subst (IsCapOf (take n (names_written es)) e) h.1
-        (record { name = name; rate = rate; under = subst (λ ns. IsPlaceOf ns e.under cap.under) so.names under })))
+        (record { name = name; rate = rate; under = subst (λ ns. IsPlaceOfCap ns e.under cap.under) so.names under })))
 
 pub caps-all : (es : List NamedRate) (n : ℕ) (caps : List Cap) → AreCapsSoFar es n caps → n ≡ length es → AreCapsOf es caps
 caps-all es n caps so e = record { as_many = so.as_many ∙ e; each = so.each }
@@ -103,13 +103,13 @@ caps-names es caps are = by es caps are.as_many (λ c e cap s t. (are.each c e c
     by (x ∷ xs) (y ∷ ys) l h = ap₂ (λ z zs. z ∷ zs) (h 0 x y refl refl) (by xs ys (omega arith) (λ c e cap s t. h (suc c) e cap s t))
 
 pub first-unknown-cap : (es : List NamedRate) (n : ℕ) (caps : List Cap) (e : NamedRate) (name : List ℕ) → AreCapsSoFar es n caps → n < length es → e ≡ get_or es n e → e.under ≡ Some name →
-    ((place : Option ℕ) → IsPlaceOf (map (λ c. c.name) caps) e.under place → ⊥) → IsFirstUnknown (names_before es) es name
+    ((place : Option ℕ) → IsPlaceOfCap (map (λ c. c.name) caps) e.under place → ⊥) → IsFirstUnknown (names_before es) es name
 first-unknown-cap es n caps e name so l is under none = record {
   place = n;
   entry = e;
   stands = slice_get_read es (length es) n e refl l is;
   under = under;
-  unknown = λ k. none k.0 (subst (λ ns. IsPlaceOf ns e.under k.0) (sym so.names) k.1);
+  unknown = λ k. none k.0 (subst (λ ns. IsPlaceOfCap ns e.under k.0) (sym so.names) k.1);
   before = λ i x lt s. let cap = there caps i (let a = so.as_many in omega arith) in (cap.0.under, (so.each i x cap.0 s cap.1).under);
 }
 
@@ -141,7 +141,7 @@ pub tenants-all : (names : List (List ℕ)) (es : List NamedRate) (n : ℕ) (ts 
 tenants-all names es n ts so e = record { as_many = so.as_many ∙ e; each = so.each }
 
 pub first-unknown-tenant : (names : List (List ℕ)) (es : List NamedRate) (n : ℕ) (ts : List Tenant) (e : NamedRate) (name : List ℕ) → AreTenantsSoFar names es n ts → n < length es → e ≡ get_or es n e → e.under ≡ Some name →
-    ((place : Option ℕ) → IsPlaceOf names e.under place → ⊥) → IsFirstUnknown (λ _. names) es name
+    ((place : Option ℕ) → IsPlaceOfCap names e.under place → ⊥) → IsFirstUnknown (λ _. names) es name
 first-unknown-tenant names es n ts e name so l is under none = record {
   place = n;
   entry = e;
@@ -156,7 +156,7 @@ all-known es caps are i e s = let cap = there caps i (let a = are.as_many in let
 
 -- What demands keep.
 
-place-under : (names : List (List ℕ)) (name : Option (List ℕ)) (under : Option ℕ) (u : ℕ) → IsPlaceOf names name under → under ≡ Some u → u < length names
+place-under : (names : List (List ℕ)) (name : Option (List ℕ)) (under : Option ℕ) (u : ℕ) → IsPlaceOfCap names name under → under ≡ Some u → u < length names
 place-under names None under u e f = let no : ⊥ = cc in absurd no
 place-under names (Some name) under u h f =
     let same : h.0 ≡ u = ap (λ o. unwrap_or o u) (sym h.1 ∙ f) in

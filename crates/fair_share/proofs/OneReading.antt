@@ -15,11 +15,11 @@ use Rattle.fair_share.specs.declared.entry.ElementPart.{ElementPart}
 use Rattle.fair_share.specs.declared.entry.ElementPart.TheVariants.{Itself, Name, Rate, Under}
 use Rattle.fair_share.specs.declared.fault.DemandFault.{DemandFault}
 use Rattle.fair_share.specs.declared.fault.DemandFault.TheVariants.{Json, Shape, TooLarge, DuplicateName, UnknownCap, OutOfMemory}
-use Rattle.fair_share.specs.Json.{IsJsonText, HasTextMember, HasArray}
+use Rattle.topology_shape.specs.Json.{IsJson, HasText, HasItems}
 use Rattle.fair_share.specs.Format.{HasRate, HasUnder, IsEntryOf, HasEntries, AreEntriesOf}
-use Rattle.fair_share.specs.Shape.{IsWrongPart, IsWrongArray, IsMisshapen}
+use Rattle.fair_share.specs.Shape.{IsWrongPart, IsWrongEntryArray, AreMisshapenDemands}
 use Rattle.fair_share.specs.Shares.{Demands, IsDemands}
-use Rattle.fair_share.specs.Reading.{names_written, all_names, IsPlaceOf, AreCapsOf, AreTenantsOf, AreDemandsOf, AreWritten, IsDemandsText, AreFew, IsTooLarge, IsFirstRepeatedName, IsFirstUnknown, IsUnknown, names_before, all_names_of, RefusesDemands}
+use Rattle.fair_share.specs.Reading.{names_written, all_names, IsPlaceOfCap, AreCapsOf, AreTenantsOf, AreDemandsOf, AreWritten, IsDemandsText, AreFew, IsTooLarge, IsFirstRepeatedName, IsFirstUnknown, IsUnknown, names_before, all_names_of, RefusesDemands}
 use Rattle.fair_share.proofs.NamedRates.{lawful}
 use Rattle.fair_share.proofs.Numbering.{are-demands, get-take, there}
 use Rattle.fair_share.proofs.OneDivision.{place-once}
@@ -35,7 +35,7 @@ none-some {X} {Y} {o} {x} e f = let g : ◌≡◌ {A = Option X} None (Some x) =
 
 -- Values of one text, and what their members describe.
 
-json-one : (bytes : List ℕ) (a b : Data) → IsJsonText bytes a → IsJsonText bytes b → a ≡ b
+json-one : (bytes : List ℕ) (a b : Data) → IsJson bytes a → IsJson bytes b → a ≡ b
 json-one bytes a b p q = some-one p.1 q.1
 
 items-same : (xs ys : List Data) → items_of xs ≡ items_of ys → xs ≡ ys
@@ -46,16 +46,16 @@ items-same (x ∷ xs) (y ∷ ys) e =
     let rest : xs ≡ ys = items-same xs ys cc in
     cc
 
-array-one : (key : List ℕ) (d : Data) (xs ys : List Data) → HasArray key d xs → HasArray key d ys → xs ≡ ys
+array-one : (key : List ℕ) (d : Data) (xs ys : List Data) → HasItems key d xs → HasItems key d ys → xs ≡ ys
 array-one key d xs ys p q = items-same xs ys (some-one p q)
 
 rate-one : (key : List ℕ) (d : Data) (n m : ℕ) → HasRate key d n → HasRate key d m → n ≡ m
 rate-one key d n m p q = IsRate-one p.text n m p.form (subst (λ (t : List ℕ). IsRate t m) (some-one q.stands p.stands) q.form)
 
-no-text : {X : Type 0} (d : Data) (text : List ℕ) → HasUnder d None → HasTextMember (codes "under") d text → X
+no-text : {X : Type 0} (d : Data) (text : List ℕ) → HasUnder d None → HasText (codes "under") d text → X
 no-text d text missing has = absurd (by missing has)
   where
-    by : HasUnder d None → HasTextMember (codes "under") d text → ⊥
+    by : HasUnder d None → HasText (codes "under") d text → ⊥
     by missing has = cc
 
 under-one : (d : Data) (o p : Option (List ℕ)) → HasUnder d o → HasUnder d p → o ≡ p
@@ -66,7 +66,7 @@ under-one d (Some s) (Some t) h k = ap Some (some-one h k)
 
 entry-one : (key : List ℕ) (d : Data) (a b : NamedRate) → IsEntryOf key d a → IsEntryOf key d b → a ≡ b
 entry-one key d a b p q =
-    let name : a.name ≡ b.name = some-one p.name.stands q.name.stands in
+    let name : a.name ≡ b.name = some-one p.name.0 q.name.0 in
     let rate : a.rate ≡ b.rate = rate-one key d a.rate b.rate p.rate q.rate in
     let under : a.under ≡ b.under = under-one d a.under b.under p.under q.under in
     λ i. record { name = name i; rate = rate i; under = under i }
@@ -104,7 +104,7 @@ lists-one [] (y ∷ ys) l h = let no : ⊥ = omega arith in absurd no
 lists-one (x ∷ xs) [] l h = let no : ⊥ = omega arith in absurd no
 lists-one (x ∷ xs) (y ∷ ys) l h = ap₂ (λ u us. u ∷ us) (h 0 x y refl refl) (lists-one xs ys (omega arith) (λ i u v e f. h (suc i) u v e f))
 
-place-one : (names : List (List ℕ)) → ((i j : ℕ) (name : List ℕ) → slice_get names i ≡ Some name → slice_get names j ≡ Some name → i ≡ j) → (under : Option (List ℕ)) (a b : Option ℕ) → IsPlaceOf names under a → IsPlaceOf names under b → a ≡ b
+place-one : (names : List (List ℕ)) → ((i j : ℕ) (name : List ℕ) → slice_get names i ≡ Some name → slice_get names j ≡ Some name → i ≡ j) → (under : Option (List ℕ)) (a b : Option ℕ) → IsPlaceOfCap names under a → IsPlaceOfCap names under b → a ≡ b
 place-one names once None a b p q = p ∙ sym q
 place-one names once (Some name) a b (i, e, at) (j, f, at') = e ∙ (ap Some (once i j name at at') ∙ sym f)
 
@@ -165,14 +165,14 @@ zip-there R (a ∷ xs) [] i x z e = absurd z
 zip-there {A} R (a ∷ xs) (y ∷ ys) zero x z e = let same : a ≡ x = cc in (y, subst (λ (b : A). R b y) same z.0)
 zip-there R (a ∷ xs) (y ∷ ys) (suc i) x z e = zip-there R xs ys i x z.1 e
 
-right-array : (key rate_key : List ℕ) (d : Data) (entries : List NamedRate) (what : List ℕ) → HasEntries key rate_key d entries → IsWrongArray key rate_key d what → ⊥
+right-array : (key rate_key : List ℕ) (d : Data) (entries : List NamedRate) (what : List ℕ) → HasEntries key rate_key d entries → IsWrongEntryArray key rate_key d what → ⊥
 right-array key rate_key d entries what has (inl (e, none)) = none has.0 has.1
 right-array key rate_key d entries what has (inr (items, is, wrong)) =
     let zipped : AllZip (IsEntryOf rate_key) items entries = subst (λ (ds : List Data). AllZip (IsEntryOf rate_key) ds entries) (array-one key d has.0 items has.1 is) has.2 in
     let found = zip-there (IsEntryOf rate_key) items entries wrong.place wrong.item zipped wrong.stands in
     right-entry rate_key wrong.item found.0 wrong.part found.1 wrong.wrong
 
-right-value : (d : Data) (entries : NamedRates) (what : List ℕ) → AreEntriesOf d entries → IsMisshapen d what → ⊥
+right-value : (d : Data) (entries : NamedRates) (what : List ℕ) → AreEntriesOf d entries → AreMisshapenDemands d what → ⊥
 right-value d entries what are (inl (e, none)) = none are.object
 right-value d entries what are (inr (object, inl wrong)) = right-array (codes "caps") (codes "rate") d entries.caps.items what are.caps wrong
 right-value d entries what are (inr (object, inr (caps, wrong))) = right-array (codes "tenants") (codes "demand") d entries.tenants.items what are.tenants wrong
@@ -212,7 +212,7 @@ names-same a b same = ap₂ (λ es ts. names_written es ++ names_written ts) sam
 pub demands-apart : (bytes : List ℕ) (d : Demands) (fault : DemandFault) → IsDemandsText bytes d → RefusesDemands bytes fault → fault ≡ OutOfMemory
 demands-apart bytes d Json (a, (value, text, are), is) refused = absurd (refused value text)
 demands-apart bytes d (Shape what) (a, (value, text, are), is) (other, text', wrong) =
-    absurd (right-value value a what are (subst (λ (v : Data). IsMisshapen v what) (json-one bytes other value text' text) wrong))
+    absurd (right-value value a what are (subst (λ (v : Data). AreMisshapenDemands v what) (json-one bytes other value text' text) wrong))
 demands-apart bytes d (TooLarge what count) (a, written, is) (b, written', wrong) = absurd (not-large a b what count (written-one bytes a b written written') is.few wrong)
 demands-apart bytes d (DuplicateName name) (a, written, is) (b, written', wrong) =
     let same = names-same a b (written-one bytes a b written written') in

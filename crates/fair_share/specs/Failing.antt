@@ -13,13 +13,13 @@ use Rattle.fair_share.specs.declared.entry.PartFault.{PartFault}
 use Rattle.fair_share.specs.declared.entry.PartFault.TheVariants as part
 
 -- memory ran out, or these are the words for what is missing or wrong
-abbrev pub FailsAs : (List ℕ → Type 0) → DemandFault → Type 0
-FailsAs IsWrong Json = ⊥
-FailsAs IsWrong (Shape what) = IsWrong what
-FailsAs IsWrong (TooLarge what count) = ⊥
-FailsAs IsWrong (DuplicateName name) = ⊥
-FailsAs IsWrong (UnknownCap name) = ⊥
-FailsAs IsWrong OutOfMemory = ⊤
+abbrev pub FailsAsShape : (List ℕ → Type 0) → DemandFault → Type 0
+FailsAsShape IsWrong Json = ⊥
+FailsAsShape IsWrong (Shape what) = IsWrong what
+FailsAsShape IsWrong (TooLarge what count) = ⊥
+FailsAsShape IsWrong (DuplicateName name) = ⊥
+FailsAsShape IsWrong (UnknownCap name) = ⊥
+FailsAsShape IsWrong OutOfMemory = ⊤
 
 -- memory ran out, or this part is missing or wrong
 abbrev pub FailsAsPart : (ElementPart → Type 0) → PartFault → Type 0

@@ -1,7 +1,6 @@
 pub mod Shares
 pub mod Filling
 pub mod Examples
-pub mod Json
 pub mod Format
 pub mod Shape
 pub mod Reading

@@ -9,9 +9,9 @@ use Rattle.fair_share.specs.declared.entry.NamedRate.{NamedRate}
 use Rattle.fair_share.specs.declared.entry.NamedRates.{NamedRates}
 use Rattle.fair_share.specs.declared.fault.DemandFault.{DemandFault}
 use Rattle.fair_share.specs.declared.fault.DemandFault.TheVariants.{Json, Shape, TooLarge, DuplicateName, UnknownCap, OutOfMemory}
-use Rattle.fair_share.specs.Json.{IsJsonText}
+use Rattle.topology_shape.specs.Json.{IsJson}
 use Rattle.fair_share.specs.Format.{AreEntriesOf}
-use Rattle.fair_share.specs.Shape.{IsMisshapen}
+use Rattle.fair_share.specs.Shape.{AreMisshapenDemands}
 use Rattle.fair_share.specs.Shares.{Demands}
 
 abbrev pub names_written : List NamedRate → List (List ℕ)
@@ -25,19 +25,19 @@ abbrev pub AreFew : NamedRates → Type 0
 AreFew entries = (length entries.caps.items ≤ MAX_CAPS) × (length entries.tenants.items ≤ MAX_TENANTS)
 
 -- the place of the name among these names; where nothing is named, none
-abbrev pub IsPlaceOf : List (List ℕ) → Option (List ℕ) → Option ℕ → Type 0
-IsPlaceOf names None under = under ≡ None
-IsPlaceOf names (Some name) under = (k : ℕ) × (under ≡ Some k) × (slice_get names k ≡ Some name)
+abbrev pub IsPlaceOfCap : List (List ℕ) → Option (List ℕ) → Option ℕ → Type 0
+IsPlaceOfCap names None under = under ≡ None
+IsPlaceOfCap names (Some name) under = (k : ℕ) × (under ≡ Some k) × (slice_get names k ≡ Some name)
 
 pub record IsCapOf (names : List (List ℕ)) (entry : NamedRate) (cap : Cap) : Type 0 where
   pub name : cap.name ≡ entry.name
   pub rate : cap.rate ≡ entry.rate
-  pub under : IsPlaceOf names entry.under cap.under
+  pub under : IsPlaceOfCap names entry.under cap.under
 
 pub record IsTenantOf (names : List (List ℕ)) (entry : NamedRate) (tenant : Tenant) : Type 0 where
   pub name : tenant.name ≡ entry.name
   pub demand : tenant.demand ≡ entry.rate
-  pub under : IsPlaceOf names entry.under tenant.under
+  pub under : IsPlaceOfCap names entry.under tenant.under
 
 -- Each cap is under one of those before it.
 pub record AreCapsOf (entries : List NamedRate) (caps : List Cap) : Type 0 where
@@ -60,7 +60,7 @@ pub record AreDemandsOf (entries : NamedRates) (d : Demands) : Type 0 where
 
 -- the bytes are a JSON text that describes these entries
 abbrev pub AreWritten : List ℕ → NamedRates → Type 0
-AreWritten bytes entries = (value : Data) × IsJsonText bytes value × AreEntriesOf value entries
+AreWritten bytes entries = (value : Data) × IsJson bytes value × AreEntriesOf value entries
 
 -- the bytes stand for these demands
 abbrev pub IsDemandsText : List ℕ → Demands → Type 0
@@ -86,7 +86,7 @@ pub record IsFirstRepeatedName (names : List (List ℕ)) (name : List ℕ) : Typ
 
 -- an entry is under nothing, or under one of these names
 abbrev pub IsKnown : List (List ℕ) → NamedRate → Type 0
-IsKnown names entry = (under : Option ℕ) × IsPlaceOf names entry.under under
+IsKnown names entry = (under : Option ℕ) × IsPlaceOfCap names entry.under under
 
 -- The name that the first entry is under that is none of those which it may be under: names_for gives these, by the place of the entry.
 pub record IsFirstUnknown (names_for : ℕ → List (List ℕ)) (entries : List NamedRate) (name : List ℕ) : Type 0 where
@@ -129,8 +129,8 @@ HasRefused bytes fault = (entries : NamedRates) × AreWritten bytes entries × A
 
 -- Why bytes are refused. Want of memory has no cause.
 abbrev pub RefusesDemands : List ℕ → DemandFault → Type 0
-RefusesDemands bytes Json = (value : Data) → ¬ IsJsonText bytes value
-RefusesDemands bytes (Shape what) = (value : Data) × IsJsonText bytes value × IsMisshapen value what
+RefusesDemands bytes Json = (value : Data) → ¬ IsJson bytes value
+RefusesDemands bytes (Shape what) = (value : Data) × IsJson bytes value × AreMisshapenDemands value what
 RefusesDemands bytes (TooLarge what count) = HasRefused bytes (TooLarge what count)
 RefusesDemands bytes (DuplicateName name) = HasRefused bytes (DuplicateName name)
 RefusesDemands bytes (UnknownCap name) = HasRefused bytes (UnknownCap name)

@@ -4,10 +4,11 @@ ghost use Rattle.std.specs.String.{string_bytes};
 ghost use Rattle.serde_json.specs.Data.{Data};
 ghost use Rattle.serde_json.specs.View.{view};
 ghost use Rattle.fair_share.specs.declared.entry.PartFault.TheVariants as part;
-ghost use Rattle.fair_share.specs.Json.{HasTextMember, HasArray};
-ghost use Rattle.fair_share.specs.Format.{HasName, HasRate, HasUnder, IsEntryOf, HasEntries, AreEntriesOf};
-ghost use Rattle.fair_share.specs.Shape.{IsWrongPart, IsWrongArray, IsMisshapen, element_words};
-ghost use Rattle.fair_share.specs.Failing.{FailsAs, FailsAsPart};
+ghost use Rattle.topology_shape.specs.Json.{HasText, HasItems};
+ghost use Rattle.topology_shape.specs.Format.{HasName};
+ghost use Rattle.fair_share.specs.Format.{HasRate, HasUnder, IsEntryOf, HasEntries, AreEntriesOf};
+ghost use Rattle.fair_share.specs.Shape.{IsWrongPart, IsWrongEntryArray, AreMisshapenDemands, entry_words};
+ghost use Rattle.fair_share.specs.Failing.{FailsAsShape, FailsAsPart};
 
 use crate::fault::DemandFault;
 use merlin_base::{Name, OutOfMemory, is_name, name_from, rate_value};
@@ -55,8 +56,8 @@ impl From<OutOfMemory> for PartFault {
 
 // The text under a name.
 fn text_under<'v>(value: &'v Value, key: &str) -> Option<&'v str>
-    ensures some { IfSome result (λ text. HasTextMember key.now (view value.now) text.now) }
-    ensures none { IfNone result ((text : List ℕ) → ¬ HasTextMember key.now (view value.now) text) }
+    ensures some { IfSome result (λ text. HasText key.now (view value.now) text.now) }
+    ensures none { IfNone result ((text : List ℕ) → ¬ HasText key.now (view value.now) text) }
 {
     value.get(key).and_then(Value::as_str)
 }
@@ -130,7 +131,7 @@ fn entry_of(alloc: Global, value: &Value, rate_key: &str) -> Result<NamedRate, P
 
 // The fault of this shape.
 fn shape_fault(alloc: Global, what: &str) -> DemandFault
-    ensures { FailsAs (λ words. words ≡ what.now) result }
+    ensures { FailsAsShape (λ words. words ≡ what.now) result }
 {
     match name_from(alloc, what.as_bytes()) {
         Ok(what) => DemandFault::Shape { what },
@@ -147,7 +148,7 @@ fn words_for(
     part: ElementPart,
 ) -> Result<String, OutOfMemory>
     ensures { IfOk result (λ words. string_bytes words
-        ≡ element_words key.now rate_key.now place part) }
+        ≡ entry_words key.now rate_key.now place part) }
 {
     match part {
         ElementPart::Itself => Ok(format!(in alloc; "{key}[{place}]")?),
@@ -165,7 +166,7 @@ fn element_fault(
     place: usize,
     part: ElementPart,
 ) -> DemandFault
-    ensures { FailsAs (λ words. words ≡ element_words key.now rate_key.now place part) result }
+    ensures { FailsAsShape (λ words. words ≡ entry_words key.now rate_key.now place part) result }
 {
     match words_for(alloc, key, rate_key, place, part) {
         Ok(words) => shape_fault(alloc, &words),
@@ -175,8 +176,8 @@ fn element_fault(
 
 fn items_under<'v>(value: &'v Value, key: &str) -> Option<&'v Vec<Value>>
     ensures some { IfSome result (λ items.
-        HasArray key.now (view value.now) (map view items.now.items)) }
-    ensures none { IfNone result ((items : List Data) → ¬ HasArray key.now (view value.now) items) }
+        HasItems key.now (view value.now) (map view items.now.items)) }
+    ensures none { IfNone result ((items : List Data) → ¬ HasItems key.now (view value.now) items) }
 {
     value.get(key).and_then(Value::as_array)
 }
@@ -190,7 +191,8 @@ fn entries_under(
 ) -> Result<Vec<NamedRate>, DemandFault>
     ensures ok { IfOk result (λ entries. HasEntries key.now rate_key.now
         (view value.now) entries.items) }
-    ensures err { IfErr result (FailsAs (IsWrongArray key.now rate_key.now (view value.now))) }
+    ensures err { IfErr result (FailsAsShape
+        (IsWrongEntryArray key.now rate_key.now (view value.now))) }
 {
     let Some(array) = items_under(value, key) else {
         return Err(shape_fault(alloc, key));
@@ -213,7 +215,7 @@ fn entries_under(
 /// The caps and tenants that the value describes.
 pub(crate) fn entries_of(alloc: Global, value: &Value) -> Result<NamedRates, DemandFault>
     ensures ok { IfOk result (AreEntriesOf (view value.now)) }
-    ensures err { IfErr result (FailsAs (IsMisshapen (view value.now))) }
+    ensures err { IfErr result (FailsAsShape (AreMisshapenDemands (view value.now))) }
 {
     if !value.is_object() {
         return Err(shape_fault(alloc, "top"));

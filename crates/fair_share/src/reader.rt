@@ -1,8 +1,8 @@
 //! From the bytes to the demands.
 ghost use Rattle.std.specs.Prelude.{◌≡◌, ◌+◌, ◌<◌, ◌^◌, ℕ, List, Option, None, Some, map, IfOk, IfErr};
 ghost use Rattle.serde_json.specs.View.{view};
-ghost use Rattle.fair_share.specs.Json.{IsJsonText};
-ghost use Rattle.fair_share.specs.Reading.{names_written, names_before, IsPlaceOf, IsKnown, AreCapsOf, AreTenantsOf, AreFew, AreDemandsOf, IsDemandsText, IsFirstUnknown, AreRefused, RefusesDemands};
+ghost use Rattle.topology_shape.specs.Json.{IsJson};
+ghost use Rattle.fair_share.specs.Reading.{names_written, names_before, IsPlaceOfCap, IsKnown, AreCapsOf, AreTenantsOf, AreFew, AreDemandsOf, IsDemandsText, IsFirstUnknown, AreRefused, RefusesDemands};
 ghost use Rattle.fair_share.specs.Failing.{AreLawful, FailsAsUnknown, FailsAsTooLarge};
 
 use crate::cap::{Cap, Tenant};
@@ -17,7 +17,7 @@ use std::alloc::Global;
 use std::str;
 
 fn value_of(alloc: Global, bytes: &[u8]) -> Result<Value, DemandFault>
-    ensures ok { IfOk result (λ v. IsJsonText bytes.now (view v)) }
+    ensures ok { IfOk result (λ v. IsJson bytes.now (view v)) }
     ensures err { IfErr result (RefusesDemands bytes.now) }
 {
     let Ok(text) = str::from_utf8(bytes) else {
@@ -60,9 +60,9 @@ fn ask_counts(alloc: Global, entries: &NamedRates) -> Result<(), DemandFault>
 
 // The place of the cap that something is under, by its name.
 fn place_of(alloc: Global, caps: &[Cap], under: &Option<Name>) -> Result<Option<usize>, DemandFault>
-    ensures ok { IfOk result (IsPlaceOf (map (λ cap. cap.name) caps.now) under.now) }
+    ensures ok { IfOk result (IsPlaceOfCap (map (λ cap. cap.name) caps.now) under.now) }
     ensures err { IfErr result (FailsAsUnknown (λ name. (under.now ≡ Some name)
-        × ((place : Option ℕ) → ¬ IsPlaceOf (map (λ cap. cap.name) caps.now) under.now place))) }
+        × ((place : Option ℕ) → ¬ IsPlaceOfCap (map (λ cap. cap.name) caps.now) under.now place))) }
 {
     let Some(name) = under else {
         return Ok(None);

@@ -7,7 +7,7 @@ use Rattle.merlin_model.specs.declared.config.Out.TheVariants.{InPort, Port}
 use Rattle.merlin_model.specs.declared.config.Action.{Action}
 use Rattle.merlin_model.specs.declared.config.Action.TheVariants.{SetVlan, StripVlan, Output, Enqueue}
 use Rattle.openflow_wire.specs.declared.numbers.TheConstants.{IN_PORT}
-use Rattle.openflow_wire.specs.Rules.{AreActions, Sends, ChangesTag, IsOut, IsPortNumber, IsVlanId, IsQueueId}
+use Rattle.openflow_wire.specs.Rules.{AreActions, Sends, ChangesTag, IsOut, IsPhysicalPort, IsVlanId, IsQueueId}
 use Rattle.openflow_wire.specs.Fields.{bytes_of, number_at, is_port, is_vlan_id, is_queue_id}
 use Rattle.openflow_wire.specs.Messages.{out_number, action_numbers, actions_bytes, out_of, change_of, send_of, actions_after, actions_of}
 
@@ -16,7 +16,7 @@ both true true ea eb = refl
 both true false ea eb = eb
 both false b ea eb = ea
 
-pub port_is : (n : ℕ) → IsPortNumber n → is_port n ≡ true
+pub port_is : (n : ℕ) → IsPhysicalPort n → is_port n ≡ true
 port_is n is = both _ _ (le-leb 1 n is.0) (le-leb n _ is.1)
 
 pub vlan_id_is : (n : ℕ) → IsVlanId n → is_vlan_id n ≡ true

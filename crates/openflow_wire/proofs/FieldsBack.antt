@@ -7,7 +7,7 @@ use Rattle.merlin_model.specs.declared.config.Vlan.{Vlan}
 use Rattle.merlin_model.specs.declared.config.Vlan.TheVariants.{Untagged, Tag}
 use Rattle.merlin_model.specs.declared.config.Match.{Match}
 use Rattle.merlin_model.specs.declared.config.Rule.{Rule}
-use Rattle.openflow_wire.specs.Rules.{IsRule, IsPortNumber, AreActions, IsVlan}
+use Rattle.openflow_wire.specs.Rules.{IsRule, IsPhysicalPort, AreActions, IsVlan}
 use Rattle.openflow_wire.specs.Fields.{number_at, wildcards_of, is_left_out}
 use Rattle.openflow_wire.specs.Messages.{actions_bytes, message_of, match_wildcards, wildcard_bits, number_of_bits, bit_number, named, vlan_number, ether_type}
 use Rattle.openflow_wire.proofs.Bits.{below, bits_from}
@@ -51,7 +51,7 @@ value_small (Some n) limit some h = h
 pub in_port_back : (rule : Rule) (xid : ℕ) → IsRule rule → number_at (message_of rule xid) 12 2 ≡ named rule.fits.in_port
 in_port_back rule xid is = big_number-reads_back 2 _ (drop 14 (message_of rule xid)) (small rule.fits.in_port is.fits.in_port)
   where
-    small : (o : Option ℕ) → IfSome o IsPortNumber → named o < 2 ^ 16
+    small : (o : Option ℕ) → IfSome o IsPhysicalPort → named o < 2 ^ 16
     small None h = omega arith
     small (Some n) h = omega (arith, h)
 

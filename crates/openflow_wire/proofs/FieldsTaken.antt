@@ -10,7 +10,7 @@ use Rattle.openflow_wire.specs.declared.layout.Taken.{Taken}
 use Rattle.openflow_wire.specs.declared.layout.Taken.TheVariants.{Any, Only, AtMost, Length, Wildcards, InPort, VlanId, EtherType}
 use Rattle.openflow_wire.specs.declared.layout.TheConstants.{FIELDS}
 use Rattle.openflow_wire.specs.declared.numbers.TheConstants.{NO_VLAN, IPV4}
-use Rattle.openflow_wire.specs.Rules.{IsRule, IsPortNumber, IsVlan}
+use Rattle.openflow_wire.specs.Rules.{IsRule, IsPhysicalPort, IsVlan}
 use Rattle.openflow_wire.specs.Fields.{number_at, are_wildcards, is_count, is_port, is_vlan_id, is_taken, may_hold}
 use Rattle.openflow_wire.specs.Messages.{message_of, actions_bytes, first_fault, match_wildcards, wildcard_bits, number_of_bits, named, vlan_number, ether_type}
 use Rattle.openflow_wire.proofs.Bits.{bits_above, bits_from}
@@ -49,7 +49,7 @@ wildcards_taken m =
       count_of (not (is_some m.nw_dst)),
     ) refl
 
-in_port_taken : (o : Option ℕ) (b : Bool) (n : ℕ) → b ≡ not (is_some o) → n ≡ named o → IfSome o IsPortNumber → (b || is_port n) ≡ true
+in_port_taken : (o : Option ℕ) (b : Bool) (n : ℕ) → b ≡ not (is_some o) → n ≡ named o → IfSome o IsPhysicalPort → (b || is_port n) ≡ true
 in_port_taken None b n e h is = ap (λ c. c || is_port n) e
 in_port_taken (Some v) b n e h is = or_right b (is_port n) (ap is_port h ∙ port_is v is)
 

@@ -50,14 +50,14 @@ first_match = record {
   tp_dst = None;
 }
 
-abbrev pub tag_rule : Rule
-tag_rule = record { loc = 2; priority = 100; fits = tag_match; actions = StripVlan ∷ Output (Port 1) ∷ [] }
+abbrev pub strip_rule : Rule
+strip_rule = record { loc = 2; priority = 100; fits = tag_match; actions = StripVlan ∷ Output (Port 1) ∷ [] }
 
 abbrev pub first_rule : Rule
 first_rule = record { loc = 2; priority = 20; fits = first_match; actions = Output (Port 2) ∷ [] }
 
-abbrev pub last_rule : Rule
-last_rule = record { loc = 2; priority = 0; fits = no_match; actions = [] }
+abbrev pub drop_rule : Rule
+drop_rule = record { loc = 2; priority = 0; fits = no_match; actions = [] }
 
 -- 01 0e 0058 00000001 003820f5 0000 000000000000 000000000001 0001 00 00 0000 00 00 0000 00000000 00000000 0000 0000
 -- 0000000000000000 0000 0000 0000 0064 ffffffff ffff 0000, then 0003 0008 00000000 and 0000 0008 0001 0000

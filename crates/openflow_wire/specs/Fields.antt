@@ -2,7 +2,7 @@
 use Rattle.std.specs.Prelude.{ℕ, ◌+◌, ◌/◌, ◌%◌, ◌^◌, ◌==◌, nat_le, Bool, true, ◌&&◌, ◌||◌, List, length, drop}
 use Rattle.std.specs.List.{flat_map}
 use Rattle.byteorder.specs.Endian.{big_number, big_bytes}
-use Rattle.openflow_wire.specs.declared.numbers.TheConstants.{GREATEST_PORT, MAX_VLAN, MAX_QUEUE, NO_VLAN, IPV4}
+use Rattle.openflow_wire.specs.declared.numbers.TheConstants.{GREATEST_PORT, MAX_VLAN, MAX_QUEUE_ID, NO_VLAN, IPV4}
 use Rattle.openflow_wire.specs.declared.numbers.Number.{Number}
 use Rattle.openflow_wire.specs.declared.numbers.Number.TheVariants.{Byte, Short, Word, Mac, Long}
 use Rattle.openflow_wire.specs.declared.layout.Taken.{Taken}
@@ -51,7 +51,7 @@ abbrev pub is_vlan_id : ℕ → Bool
 is_vlan_id n = nat_le 1 n && nat_le n MAX_VLAN
 
 abbrev pub is_queue_id : ℕ → Bool
-is_queue_id n = nat_le 1 n && nat_le n MAX_QUEUE
+is_queue_id n = nat_le 1 n && nat_le n MAX_QUEUE_ID
 
 -- Which numbers a field may hold in a message.
 abbrev pub may_hold : Taken → List ℕ → ℕ → Bool

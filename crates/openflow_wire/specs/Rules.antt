@@ -8,20 +8,20 @@ use Rattle.merlin_model.specs.declared.config.Vlan.{Vlan}
 use Rattle.merlin_model.specs.declared.config.Vlan.TheVariants.{Untagged, Tag}
 use Rattle.merlin_model.specs.declared.config.Match.{Match}
 use Rattle.merlin_model.specs.declared.config.Rule.{Rule}
-use Rattle.openflow_wire.specs.declared.numbers.TheConstants.{GREATEST_PORT, MAX_VLAN, MAX_QUEUE}
+use Rattle.openflow_wire.specs.declared.numbers.TheConstants.{GREATEST_PORT, MAX_VLAN, MAX_QUEUE_ID}
 
-abbrev pub IsPortNumber : ℕ → Type 0
-IsPortNumber n = (1 ≤ n) × (n ≤ GREATEST_PORT)
+abbrev pub IsPhysicalPort : ℕ → Type 0
+IsPhysicalPort n = (1 ≤ n) × (n ≤ GREATEST_PORT)
 
 abbrev pub IsVlanId : ℕ → Type 0
 IsVlanId n = (1 ≤ n) × (n ≤ MAX_VLAN)
 
 abbrev pub IsQueueId : ℕ → Type 0
-IsQueueId n = (1 ≤ n) × (n ≤ MAX_QUEUE)
+IsQueueId n = (1 ≤ n) × (n ≤ MAX_QUEUE_ID)
 
 abbrev pub IsOut : Out → Type 0
 IsOut InPort = ⊤
-IsOut (Port n) = IsPortNumber n
+IsOut (Port n) = IsPhysicalPort n
 
 abbrev pub IsVlan : Vlan → Type 0
 IsVlan Untagged = ⊤
@@ -29,7 +29,7 @@ IsVlan (Tag n) = IsVlanId n
 
 -- each field that is named has a number of its width, a port and a tag those that there are
 pub record IsMatch (m : Match) : Type 0 where
-  pub in_port : IfSome m.in_port IsPortNumber
+  pub in_port : IfSome m.in_port IsPhysicalPort
   pub dl_src : IfSome m.dl_src (λ n. n < 2 ^ 48)
   pub dl_dst : IfSome m.dl_dst (λ n. n < 2 ^ 48)
   pub dl_vlan : IfSome m.dl_vlan IsVlan

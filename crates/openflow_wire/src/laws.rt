@@ -7,7 +7,7 @@ ghost use Rattle.openflow_wire.specs.declared.numbers.TheConstants.{MAX_VLAN};
 ghost use Rattle.openflow_wire.specs.Rules.{IsRule};
 ghost use Rattle.openflow_wire.specs.Messages.{message_of, match_wildcards, message_fault, IsMessage};
 ghost use Rattle.openflow_wire.specs.Frames.{message_matches};
-ghost use Rattle.openflow_wire.specs.Examples.{tag_rule, first_rule, last_rule, tag_message, last_message};
+ghost use Rattle.openflow_wire.specs.Examples.{strip_rule, first_rule, drop_rule, tag_message, last_message};
 
 /// The message of a rule is read as that rule, under the same number.
 pub fn message_is_read_back()
@@ -24,9 +24,9 @@ pub fn message_matches_as_its_rule()
 
 /// Messages of the rules of one switch between two hosts, byte for byte, and where two that are changed stop being messages.
 pub fn worked_messages()
-    ensures tagged { message_of tag_rule 1 ≡ tag_message }
+    ensures tagged { message_of strip_rule 1 ≡ tag_message }
     ensures untagged { match_wildcards first_rule.fits ≡ 3145952 }
-    ensures last { message_of last_rule 5 ≡ last_message 1 }
+    ensures last { message_of drop_rule 5 ≡ last_message 1 }
     ensures taken { message_fault (last_message 1) ≡ None }
     ensures other_version { message_fault (last_message 4) ≡ Some 0 }
     ensures cut { message_fault (take 10 (last_message 1)) ≡ Some 2 }

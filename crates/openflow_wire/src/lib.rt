@@ -11,6 +11,6 @@ mod writing;
 pub use laws::{message_is_read_back, message_matches_as_its_rule, worked_messages};
 pub use layout::{FIELDS, FieldForm, Taken};
 pub use matching::matches;
-pub use numbers::{GREATEST_PORT, IN_PORT, IPV4, MAX_QUEUE, MAX_VLAN, NO_VLAN, Number};
+pub use numbers::{GREATEST_PORT, IN_PORT, IPV4, MAX_QUEUE_ID, MAX_VLAN, NO_VLAN, Number};
 pub use reading::{WireFault, decode};
 pub use writing::encode;

@@ -13,7 +13,7 @@ pub const MAX_VLAN: u16 = 4094;
 pub const NO_VLAN: u16 = 0xffff;
 
 /// The greatest number of a queue.
-pub const MAX_QUEUE: u16 = 64;
+pub const MAX_QUEUE_ID: u16 = 64;
 
 /// The Ethernet type of IPv4.
 pub const IPV4: u16 = 0x0800;

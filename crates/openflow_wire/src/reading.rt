@@ -9,7 +9,7 @@ ghost use Rattle.openflow_wire.specs.Messages.{out_of, is_action, change_of, enq
 ghost use Rattle.openflow_wire.specs.Layout.{asks_wildcards, has_form, IsWireFault};
 
 use crate::layout::{FIELDS, FieldForm, Taken};
-use crate::numbers::{GREATEST_PORT, IN_PORT, IPV4, MAX_QUEUE, MAX_VLAN, NO_VLAN};
+use crate::numbers::{GREATEST_PORT, IN_PORT, IPV4, MAX_QUEUE_ID, MAX_VLAN, NO_VLAN};
 use byteorder::{BigEndian, ByteOrder};
 use merlin_model::OutOfMemory;
 use merlin_model::config::{Action, Actions, Match, Out, Rule, Vlan};
@@ -189,7 +189,7 @@ fn enqueue_in(bytes: &[u8]) -> Option<Action>
     ensures { result ≡ enqueue_of bytes.now }
 {
     let queue = word_at(bytes, 12);
-    if queue < 1 || queue > u32::from(MAX_QUEUE) {
+    if queue < 1 || queue > u32::from(MAX_QUEUE_ID) {
         return None;
     }
     let out = out_in(short_at(bytes, 4))?;

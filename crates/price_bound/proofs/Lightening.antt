@@ -17,9 +17,9 @@ use Rattle.cutoff_program.specs.Easy.{EachFlowHas, fixed_from, rate_if_fixed}
 use Rattle.cutoff_program.proofs.Points.{point-sum, chosen-in, trail-different}
 use Rattle.graph_search.proofs.Places.{some-same}
 use Rattle.price_candidates.specs.Leaves.{capacity_at}
-use Rattle.price_candidates.specs.Tried.{is_fixed_to_one, IsLeastPath, IsNoLess, IsLight}
+use Rattle.price_candidates.specs.Tried.{is_fixed_to_one, IsNoLess, IsLight}
 use Rattle.price_candidates.proofs.Points.{trail-at, all-from}
-use Rattle.price_bound.specs.Loads.{is_loaded, sum_where, load_on, IsOfPaths}
+use Rattle.price_bound.specs.Loads.{is_loaded, sum_where, load_on, IsAllowedPath, IsOfPaths}
 
 -- what a flow's variable puts on a link
 abbrev of_flow : ℕ → ℕ → Variable → ℕ
@@ -107,11 +107,11 @@ module _ (test : ℕ → Bool) (link : ℕ) where
       let ih = sum-by-flow (k + 1) vs n flows in
       omega arith
 
-module _ (problem : Problem) (cutoff : Option Value) (box : List (Option Bool)) (point : List Bool) (link : ℕ) (at : ℕ → ℕ → ℕ) where
+module _ (problem : Problem) (cutoff : Option Value) (box : List (Option Bool)) (point : List Bool) (link : ℕ) where
   chosen-taken : (k : ℕ) → is_chosen point k ≡ true → is_loaded point box k ≡ true
   chosen-taken k e = ap (λ b. b || is_fixed_to_one (fixed_at box k)) e
 
-  path-no-less : (n : ℕ) (flow : Flow) (path : List ℕ) → IsLeastPath problem cutoff box at n flow path → ((k : ℕ) → In k path → is_chosen point k ≡ true) → IsNoLess problem cutoff box link n flow (sum_where (is_loaded point box) (of_flow n link) 0 (variables_of problem))
+  path-no-less : (n : ℕ) (flow : Flow) (path : List ℕ) → IsAllowedPath problem cutoff box n flow path → ((k : ℕ) → In k path → is_chosen point k ≡ true) → IsNoLess problem cutoff box link n flow (sum_where (is_loaded point box) (of_flow n link) 0 (variables_of problem))
   path-no-less n flow path is all = record {
     trail = path;
     through = record { steps = is.is_path.steps; allowed = is.allowed };
@@ -137,7 +137,7 @@ module _ (problem : Problem) (cutoff : Option Value) (box : List (Option Bool)) 
           let same : t.0 ≡ v = some-same (sym t.1 ∙ ap (slice_get (variables_of problem)) (sym at_j) ∙ s) in
           (chosen-taken i (all i inside), of v (ap (λ (w : Variable). w.flow) (sym same) ∙ t.2) (v.flow == n) refl)
 
-  each-no-less : (n : ℕ) (flows : List Flow) (paths : List (List ℕ)) → EachFlowHas (IsLeastPath problem cutoff box at) n flows paths → ((k : ℕ) → In k (edges_of paths) → is_chosen point k ≡ true) →
+  each-no-less : (n : ℕ) (flows : List Flow) (paths : List (List ℕ)) → EachFlowHas (IsAllowedPath problem cutoff box) n flows paths → ((k : ℕ) → In k (edges_of paths) → is_chosen point k ≡ true) →
       EachFlowHas (IsNoLess problem cutoff box link) n flows (by_flow (is_loaded point box) link 0 (variables_of problem) n flows)
   each-no-less n [] [] each all = tt
   each-no-less n [] (path ∷ paths) each all = absurd each
@@ -151,6 +151,6 @@ module _ (problem : Problem) (cutoff : Option Value) (box : List (Option Bool)) 
 pub fits-light : (problem : Problem) (cutoff : Option Value) (box : List (Option Bool)) (point : List Bool) (link : ℕ) → IsOfPaths problem cutoff box point → pos (load_on problem point box link) ≤ℤ room problem.objective cutoff (capacity_at problem link) → IsLight problem cutoff box link
 fits-light problem cutoff box point link is h = record {
   loads = by_flow (is_loaded point box) link 0 (variables_of problem) 0 problem.flows;
-  are_loads = each-no-less problem cutoff box point link is.at 0 problem.flows is.paths is.tried.are_paths (λ k i. (is.of.chosen k).1 (in_to (edges_of is.paths) k i));
+  are_loads = each-no-less problem cutoff box point link 0 problem.flows is.paths is.are_paths (λ k i. (is.of.chosen k).1 (in_to (edges_of is.paths) k i));
   fits = let s = sum-by-flow (is_loaded point box) link 0 (variables_of problem) 0 problem.flows in omega (arith, ints);
 }

@@ -5,3 +5,4 @@ pub mod Spreads
 pub mod Priced
 pub mod Numbers
 pub mod Loads
+pub mod Trials

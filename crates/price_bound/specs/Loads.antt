@@ -5,8 +5,12 @@ use Rattle.merlin_model.specs.Programs.{is_chosen}
 use Rattle.merlin_model.specs.Trees.{fixed_at}
 use Rattle.cutoff_program.specs.declared.flow.Problem.{Problem}
 use Rattle.cutoff_program.specs.declared.flow.Variable.{Variable}
-use Rattle.cutoff_program.specs.Flows.{variables_of, rate_over, count_if}
-use Rattle.price_candidates.specs.Tried.{is_fixed_to_one, IsTried, HasEdgesOf}
+use Rattle.std.specs.List.{AllByRecursion}
+use Rattle.cutoff_program.specs.declared.flow.Flow.{Flow}
+use Rattle.cutoff_program.specs.Flows.{variables_of, last_of, rate_over, count_if}
+use Rattle.cutoff_program.specs.Trails.{IsPath}
+use Rattle.cutoff_program.specs.Easy.{EachFlowHas, MayIn}
+use Rattle.price_candidates.specs.Tried.{is_fixed_to_one, HasEdgesOf}
 
 -- the point chooses the variable, or the box fixes it to 1
 abbrev pub is_loaded : List Bool → List (Option Bool) → ℕ → Bool
@@ -25,11 +29,14 @@ pub record AreLoads (problem : Problem) (point : List Bool) (box : List (Option 
   pub size : length loads ≡ length problem.links
   pub each : (link : ℕ) → link < length problem.links → slice_index_or loads link 0 ≡ load_on problem point box link
 
--- the point has the edges of paths of least cost
+-- the point has the edges of paths that may be taken, one for each flow
+pub record IsAllowedPath (problem : Problem) (cutoff : Option Value) (box : List (Option Bool)) (n : ℕ) (flow : Flow) (path : List ℕ) : Type 0 where
+  pub is_path : IsPath (variables_of problem) n path 0 (last_of flow)
+  pub allowed : AllByRecursion (MayIn problem cutoff box) path
+
 pub record IsOfPaths (problem : Problem) (cutoff : Option Value) (box : List (Option Bool)) (point : List Bool) : Type 0 where
-  pub at : ℕ → ℕ → ℕ
   pub paths : List (List ℕ)
-  pub tried : IsTried problem cutoff box at paths
+  pub are_paths : EachFlowHas (IsAllowedPath problem cutoff box) 0 problem.flows paths
   pub of : HasEdgesOf problem paths point
 
 -- what such a point and the box put on a link

@@ -11,6 +11,7 @@ mod numbers;
 mod permitted;
 mod prices;
 mod spread;
+mod trials;
 mod tried;
 
 pub use prices::{Prices, new};

@@ -1,19 +1,23 @@
 //! The look at a box: what is tried of it, one after the other. By linear programming duality prices on the rows of links turn the
 //! program into one search for least paths for each flow, whose distances are the weights of the flow's rows.
 
-ghost use Rattle.std.specs.Prelude.{ℕ, ◌≡◌, ◌==◌, ◌<◌, length, None, false, IfOk, IsTrue};
+ghost use Rattle.std.specs.Prelude.{ℕ, ◌≡◌, ◌==◌, ◌<◌, length, None, false, IfOk, IfSome, IsTrue};
 ghost use Rattle.std.specs.Option.{option_copied};
 ghost use Rattle.merlin_model.specs.Trees.{IsOpen, HasOpen};
 ghost use Rattle.cutoff_program.specs.Flows.{variables_of, program_at};
 ghost use Rattle.price_bound.specs.Asked.{IsBoxAsked, IsLawfulAt};
-ghost use Rattle.price_bound.specs.Numbers.{AreCosts, ArePricesTried, DoNotRefute, IsCutAt};
+ghost use Rattle.price_bound.specs.Loads.{IsOfPaths};
+ghost use Rattle.price_bound.specs.Numbers.{AreCosts, AreLinksTried, ArePricesTried, DoNotRefute, IsCutAt};
 
 use crate::costs::{Costs, CostsFound, find};
 use crate::leaf::{Priced, leaf};
+use crate::trials::{Tested, by_trials};
 use crate::tried::{try_lengths, try_links, try_rows};
 use certificate::Workspace;
 use integer_program::{Fixed, Program, Relaxation, Verdict, is_open, is_solution};
+use link_prices::LinkPrices;
 use merlin_model::OutOfMemory;
+use merlin_model::certificate::Weight;
 use merlin_model::policy::Value;
 use merlin_program::MerlinProgram;
 use sqlite_items::Items;
@@ -67,13 +71,69 @@ fn by_point(
     }
 }
 
-// What links decide, where the costs do not refute.
+// What is tried of links: those are looked at on which other paths put too much, or the paths of least cost where there are no others.
+fn try_crowded(
+    alloc: Global,
+    program: &MerlinProgram,
+    cutoff: Option<&Value>,
+    fixed: &Fixed,
+    workspace: &mut Workspace,
+    point: &[bool],
+    others: &Option<Items<bool>>,
+) -> Result<Option<Items<Weight>>, OutOfMemory>
+    requires asked { IsBoxAsked program.now.problem (option_copied cutoff) fixed.now }
+    requires room { workspace.old ≡ length (variables_of program.now.problem) }
+    requires paths { IsOfPaths program.now.problem (option_copied cutoff) fixed.now point.now }
+    requires others { let at = option_copied cutoff in
+        IfSome others.now (IsOfPaths program.now.problem at fixed.now) }
+    ensures same { workspace.new ≡ workspace.old }
+    ensures tried { let at = option_copied cutoff.entry in
+        IfOk result (AreLinksTried program.now.problem at fixed.now) }
+{
+    match others {
+        Some(others) => try_links(alloc, program, cutoff, fixed, workspace, others.as_slice()),
+        None => try_links(alloc, program, cutoff, fixed, workspace, point),
+    }
+}
+
+// What links decide, where neither the costs refute nor a candidate serves.
 fn by_links(
     alloc: Global,
     program: &MerlinProgram,
     cutoff: Option<&Value>,
     fixed: &Fixed,
     workspace: &mut Workspace,
+    costs: Costs,
+    others: Option<Items<bool>>,
+) -> Result<Verdict, OutOfMemory>
+    requires asked { IsBoxAsked program.now.problem (option_copied cutoff) fixed.now }
+    requires room { workspace.old ≡ length (variables_of program.now.problem) }
+    requires costs { let count = length program.now.problem.flows in
+        AreCosts program.now.problem (option_copied cutoff) fixed.now count costs }
+    requires lengths { let at = option_copied cutoff in
+        DoNotRefute program.now.problem at fixed.now costs.numbers }
+    requires others { let at = option_copied cutoff in
+        IfSome others (IsOfPaths program.now.problem at fixed.now) }
+    ensures same { workspace.new ≡ workspace.old }
+    ensures lawful { let problem = program.now.problem in
+        let at = option_copied cutoff.entry in
+        IfOk result (IsLawfulAt problem at fixed.now) }
+{
+    let point = costs.point.as_slice();
+    match try_crowded(alloc, program, cutoff, fixed, workspace, point, &others)? {
+        Some(weights) => Ok(Verdict::Closed(weights)),
+        None => by_point(alloc, program, cutoff, fixed, workspace, costs.point),
+    }
+}
+
+// What candidates and then links decide, where the costs do not refute.
+fn by_candidates(
+    alloc: Global,
+    program: &MerlinProgram,
+    cutoff: Option<&Value>,
+    fixed: &Fixed,
+    workspace: &mut Workspace,
+    prices: &mut LinkPrices,
     costs: Costs,
 ) -> Result<Verdict, OutOfMemory>
     requires asked { IsBoxAsked program.now.problem (option_copied cutoff) fixed.now }
@@ -87,16 +147,25 @@ fn by_links(
         let at = option_copied cutoff.entry in
         IfOk result (IsLawfulAt problem at fixed.now) }
 {
-    match try_links(
-        alloc,
-        program,
-        cutoff,
-        fixed,
-        workspace,
-        costs.point.as_slice(),
-    )? {
-        Some(weights) => Ok(Verdict::Closed(weights)),
-        None => by_point(alloc, program, cutoff, fixed, workspace, costs.point),
+    price_candidates::candidates::tried_points_are_neat();
+    if is_solution(program, cutoff, costs.point.as_slice()) {
+        return Ok(Verdict::Better(costs.point));
+    }
+    match by_trials(alloc, program, cutoff, fixed, workspace, prices)? {
+        Tested::Refuting(weights) => Ok(Verdict::Closed(weights)),
+        Tested::Better(point) => Ok(Verdict::Better(point)),
+        Tested::Others(others) => {
+            by_links(
+                alloc,
+                program,
+                cutoff,
+                fixed,
+                workspace,
+                costs,
+                Some(others),
+            )
+        }
+        Tested::Nothing => by_links(alloc, program, cutoff, fixed, workspace, costs, None),
     }
 }
 
@@ -107,6 +176,7 @@ fn by_costs(
     cutoff: Option<&Value>,
     fixed: &Fixed,
     workspace: &mut Workspace,
+    prices: &mut LinkPrices,
     costs: Costs,
 ) -> Result<Verdict, OutOfMemory>
     requires asked { IsBoxAsked program.now.problem (option_copied cutoff) fixed.now }
@@ -127,7 +197,7 @@ fn by_costs(
         costs.numbers.as_slice(),
     )? {
         Some(weights) => Ok(Verdict::Closed(weights)),
-        None => by_links(alloc, program, cutoff, fixed, workspace, costs),
+        None => by_candidates(alloc, program, cutoff, fixed, workspace, prices, costs),
     }
 }
 
@@ -158,6 +228,7 @@ fn look_at(
     cutoff: Option<&Value>,
     fixed: &Fixed,
     workspace: &mut Workspace,
+    prices: &mut LinkPrices,
 ) -> Result<Verdict, OutOfMemory>
     requires asked { IsBoxAsked program.now.problem (option_copied cutoff) fixed.now }
     requires room { workspace.old ≡ length (variables_of program.now.problem) }
@@ -168,14 +239,17 @@ fn look_at(
 {
     match find(alloc, program, cutoff, fixed)? {
         CostsFound::Cut(numbers) => closed_by_cut(alloc, program, cutoff, fixed, numbers),
-        CostsFound::Paths(costs) => by_costs(alloc, program, cutoff, fixed, workspace, costs),
+        CostsFound::Paths(costs) => by_costs(
+            alloc, program, cutoff, fixed, workspace, prices, costs,
+        ),
     }
 }
 
-/// Prices on links and shortest walks, with the room in which leaves are tested.
+/// Prices on links and shortest walks, with the room in which leaves are tested and the last prices.
 #[derive(Drop)]
 pub struct Prices {
     workspace: Workspace,
+    prices: LinkPrices,
 }
 
 impl Relaxation<MerlinProgram> for Prices {
@@ -189,7 +263,14 @@ impl Relaxation<MerlinProgram> for Prices {
         cutoff: Option<&Value>,
         fixed: &Fixed,
     ) -> Result<Verdict, OutOfMemory> {
-        look_at(alloc, program, cutoff, fixed, &mut self.workspace)
+        look_at(
+            alloc,
+            program,
+            cutoff,
+            fixed,
+            &mut self.workspace,
+            &mut self.prices,
+        )
     }
 }
 
@@ -199,5 +280,6 @@ pub fn new(alloc: Global, program: &MerlinProgram) -> Result<Prices, OutOfMemory
         IfOk result (λ prices. IsTrue (is_of prices program.now)) }
 {
     let workspace = Workspace::new(alloc, program.variables())?;
-    Ok(Prices { workspace })
+    let prices = link_prices::new(alloc, program)?;
+    Ok(Prices { workspace, prices })
 }

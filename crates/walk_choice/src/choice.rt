@@ -7,6 +7,7 @@ ghost use Rattle.cutoff_program.specs.Flows.{variables_of};
 ghost use Rattle.cutoff_program.specs.Limits.{IsProblem};
 
 use crate::copies::copy_of;
+use crate::crowding::{is_over, loads_along, most_crowded};
 use crate::ways::{keep_to, point_of, ways_of};
 use cutoff_program::flow::{Problem, Variable};
 use integer_program::Fixed;
@@ -129,15 +130,106 @@ impl WalkChoice {
         }
     }
 
-    /// The first such edge of the first flow that has one.
-    fn fork(&self, alloc: Global, fixed: &Fixed) -> Result<Option<usize>, OutOfMemory>
-        requires { length self.now.variables ≡ length fixed.now }
+    /// The least walks of all flows over these variables, an empty one where there is none.
+    fn paths(&self, alloc: Global, point: &[bool]) -> Result<Items<Items<usize>>, OutOfMemory>
+        requires { length point.now ≡ length self.now.variables }
+    {
+        let mut paths = Items::new(alloc);
+        let variables = self.variables.as_slice();
+        for flow in 0..self.problem.flows.len() {
+            match least_path(alloc, &self.problem, variables, flow, point)? {
+                Some(found) => paths.push(found.path)?,
+                None => paths.push(Items::new(alloc))?,
+            }
+        }
+        Ok(paths)
+    }
+
+    /// The fork of the heaviest flow whose walk crosses a link, among those that have one.
+    fn fork_over(
+        &self,
+        alloc: Global,
+        paths: &[Items<usize>],
+        link: usize,
+        point: &mut Items<bool>,
+        ways: &[usize],
+        fixed: &Fixed,
+    ) -> Result<Option<usize>, OutOfMemory>
+        requires size { length point.old ≡ length self.now.variables }
+        requires fixed { length fixed.now ≡ length self.now.variables }
+        ensures size { length point.new ≡ length point.old }
+        ensures free { IfOk result (λ found. IfSome found (IsFree fixed.now)) }
+    {
+        let mut best = None;
+        let mut heaviest = 0_u64;
+        for flow in 0..self.problem.flows.len() {
+            if self.is_heavier(flow, heaviest, paths, link) {
+                let found = self.fork_of(alloc, flow, point, ways, fixed)?;
+                if found.is_some() {
+                    best = found;
+                    heaviest = self.rate_of(flow);
+                }
+            }
+        }
+        Ok(best)
+    }
+
+    // The rate of a flow.
+    fn rate_of(&self, flow: usize) -> u64 {
+        match self.problem.flows.get(flow) {
+            Some(flow) => flow.rate,
+            None => 0,
+        }
+    }
+
+    // Whether a flow is heavier than a rate and its walk crosses a link.
+    fn is_heavier(&self, flow: usize, rate: u64, paths: &[Items<usize>], link: usize) -> bool {
+        match paths.get(flow) {
+            Some(path) => {
+                rate < self.rate_of(flow)
+                    && is_over(self.variables.as_slice(), path.as_slice(), link)
+            }
+            None => false,
+        }
+    }
+
+    /// The fork of the heaviest flow over the most crowded link, if there is one.
+    fn crowded_fork(
+        &self,
+        alloc: Global,
+        point: &mut Items<bool>,
+        ways: &[usize],
+        fixed: &Fixed,
+    ) -> Result<Option<usize>, OutOfMemory>
+        requires size { length point.old ≡ length self.now.variables }
+        requires fixed { length fixed.now ≡ length self.now.variables }
+        ensures size { length point.new ≡ length point.old }
+        ensures free { IfOk result (λ found. IfSome found (IsFree fixed.now)) }
+    {
+        let paths = self.paths(alloc, point.as_slice())?;
+        let links = self.problem.links.as_slice();
+        let variables = self.variables.as_slice();
+        let loads = loads_along(alloc, variables, paths.as_slice(), links.len())?;
+        match most_crowded(links, loads.as_slice()) {
+            Some(link) => self.fork_over(alloc, paths.as_slice(), link, point, ways, fixed),
+            None => Ok(None),
+        }
+    }
+
+    /// The fork of the first flow that has one.
+    fn first_fork(
+        &self,
+        alloc: Global,
+        point: &mut Items<bool>,
+        ways: &[usize],
+        fixed: &Fixed,
+    ) -> Result<Option<usize>, OutOfMemory>
+        requires size { length point.old ≡ length self.now.variables }
+        requires fixed { length fixed.now ≡ length self.now.variables }
         ensures { IfOk result (λ found. IfSome found (IsFree fixed.now)) }
     {
-        let ways = ways_of(alloc, self.variables.as_slice(), fixed)?;
-        let mut point = point_of(alloc, ways.as_slice())?;
         for flow in 0..self.problem.flows.len() {
-            let found = self.fork_of(alloc, flow, &mut point, ways.as_slice(), fixed)?;
+            let found = self.fork_of(alloc, flow, point, ways, fixed)?;
             if found.is_some() {
                 return Ok(found);
             }
@@ -145,9 +237,23 @@ impl WalkChoice {
         Ok(None)
     }
 
+    /// The fork over the most crowded link, else the first one.
+    fn fork(&self, alloc: Global, fixed: &Fixed) -> Result<Option<usize>, OutOfMemory>
+        requires { length self.now.variables ≡ length fixed.now }
+        ensures { IfOk result (λ found. IfSome found (IsFree fixed.now)) }
+    {
+        let ways = ways_of(alloc, self.variables.as_slice(), fixed)?;
+        let mut point = point_of(alloc, ways.as_slice())?;
+        match self.crowded_fork(alloc, &mut point, ways.as_slice(), fixed)? {
+            Some(variable) => Ok(Some(variable)),
+            None => self.first_fork(alloc, &mut point, ways.as_slice(), fixed),
+        }
+    }
+
     /// A free variable of a box that has one: the first edge of a statement's least walk that the statement could do without, where it
-    /// keeps to the edges before it and does not come back to a vertex. The first statement with such an edge decides; where there is
-    /// none, or memory runs out, the first free variable is answered.
+    /// keeps to the edges before it and does not come back to a vertex. Of the statements with such an edge the heaviest decides whose walk
+    /// crosses the link that least walks crowd most, else the first; where there is none, or memory runs out, the first free variable is
+    /// answered.
     pub fn choose(&self, alloc: Global, fixed: &Fixed) -> usize
         ensures { (variable : ℕ) → IsFree fixed.now variable → IsFree fixed.now result }
     {

@@ -4,6 +4,7 @@
 
 mod choice;
 mod copies;
+mod crowding;
 mod ways;
 
 pub use choice::{WalkChoice, new};

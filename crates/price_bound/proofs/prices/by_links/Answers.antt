@@ -5,12 +5,12 @@ use Rattle.price_bound.specs.Numbers.{AreLinksTried}
 use Rattle.price_bound.proofs.Looking.{costs-flat, costs-tried, costs-of}
 use Rattle.price_bound.proofs.prices.by_links.Goals as goal
 
-pub try_links-requires-clause-paths : goal.try_links-requires-clause-paths
-try_links-requires-clause-paths c =
+pub try_crowded-requires-clause-paths : goal.try_crowded-requires-clause-paths
+try_crowded-requires-clause-paths c =
     let problem = c.args.program.now.problem in
     let cutoff = option_copied c.args.cutoff in
     let box = c.args.fixed.now in
-    subst (IsOfPaths problem cutoff box) (sym c.as_slice.ensures) (costs-of problem cutoff box c.args.costs c.requires.costs)
+    subst (IsOfPaths problem cutoff box) (sym c.as_slice-point.ensures) (costs-of problem cutoff box c.args.costs c.requires.costs)
 
 pub by_point-requires-clause-tried : goal.by_point-requires-clause-tried
 by_point-requires-clause-tried c =

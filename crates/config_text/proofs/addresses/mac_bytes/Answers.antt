@@ -1,5 +1,5 @@
 use Rattle.merlin_base.specs.Addresses.{mac_text}
-use Rattle.config_text.proofs.line.mac_digits.Goals as goal
+use Rattle.config_text.proofs.addresses.mac_bytes.Goals as goal
 
 pub returns : goal.returns
 unfolding mac_text

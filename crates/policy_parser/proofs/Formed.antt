@@ -168,7 +168,7 @@ mutual
   disj_formed (or c d) h =
       (all_of_formed (lit_values c) (conj_formed c (left (spell_conj c) (word words.Or ∷ spell_pred d) h)), disj_formed d (right (spell_conj c) (word words.Or ∷ spell_pred d) h).1)
 
-pred_formed : (d : Disj) → AreSpelled (spell_pred d) → IsPred (pred_value d)
+pub pred_formed : (d : Disj) → AreSpelled (spell_pred d) → IsPred (pred_value d)
 pred_formed d h = any_of_formed (conj_values d) (disj_formed d h)
 
 -- Sets, statements and terms.

@@ -1,4 +1,8 @@
 pub mod Stars
+pub mod WholeTexts
+pub mod Alone
+pub mod PredicateTexts
+pub mod PredicateOnce
 pub mod Told
 pub mod Spelled
 pub mod Once

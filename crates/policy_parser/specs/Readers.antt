@@ -1,5 +1,5 @@
--- What a reader's answer says of the machine's run from its lexemes on, and some states of the machine by name.
-use Rattle.std.specs.Prelude.{length, ℕ, ◌≡◌, ◌≢◌, ◌<◌, List, [], ◌∷◌, ◌++◌, Option, None, Some, Bool, true, false, Result, Ok, Err, IfOk}
+-- The machine's run over a policy or over a predicate alone, what a reader's answer says of it, and some states of the machine by name.
+use Rattle.std.specs.Prelude.{length, ℕ, ◌≡◌, ◌≢◌, ◌<◌, List, [], ◌∷◌, ◌++◌, suc, ok_or, Option, None, Some, Bool, true, false, Result, Ok, Err, IfOk}
 use Rattle.merlin_model.specs.declared.policy.Bound.{Bound}
 use Rattle.merlin_model.specs.declared.policy.Part.{Part}
 use Rattle.merlin_model.specs.declared.policy.Pred.{Pred, Test as Tests}
@@ -18,7 +18,8 @@ use Rattle.policy_grammar.specs.declared.written.WrittenPolicy.{WrittenPolicy}
 use Rattle.policy_grammar.specs.declared.written.WrittenSet.{WrittenSet}
 use Rattle.policy_grammar.specs.declared.written.WrittenStatement.{WrittenStatement}
 use Rattle.policy_grammar.specs.Lexemes.{Lexeme, sign}
-use Rattle.policy_grammar.specs.Machine.{Awaited, Head, Heading, Opened, State, this_sign, this_word, any_name, literal, lits, conjs, statement_pred, statement_path, second, value_of, rep, alts, whole_path, default_path, sets as sets_awaited, set_start, with_set, outer_set, each_id, item, limit, formula, with_list, with_item, item_from, closed, path_negation, reps, begins_rep, term, terms_rest, with_term, whole_pred, put, put_path, inner_set, heading_of, set_rest, limit_rate, limit_rest, with_limit, leading, sum_rest, term_rate, run, awaiting}
+use Rattle.policy_grammar.specs.Predicates.{all_of, any_of}
+use Rattle.policy_grammar.specs.Machine.{Awaited, Head, Heading, Opened, State, this_sign, this_word, any_name, literal, lits, conjs, statement_pred, statement_path, second, value_of, rep, alts, feed, terms_rest, whole_path, default_path, sets as sets_awaited, set_start, with_set, outer_set, each_id, item, limit, formula, with_list, with_item, item_from, closed, path_negation, reps, begins_rep, term, with_term, whole_pred, put, put_path, inner_set, heading_of, set_rest, limit_rate, limit_rest, with_limit, leading, sum_rest, term_rate, awaiting}
 use Rattle.policy_parser.specs.declared.fault.ReadError.{ReadError}
 use Rattle.policy_parser.specs.declared.fault.ReadError.TheVariants as errors
 use Rattle.policy_parser.specs.declared.items.Ending.{Ending}
@@ -26,9 +27,40 @@ use Rattle.policy_parser.specs.declared.items.Ending.TheVariants as endings
 use Rattle.policy_parser.specs.declared.items.Entry.{Entry}
 use Rattle.policy_parser.specs.declared.items.Entry.TheVariants as entries
 
+-- What lexemes can be as a whole: a policy as it is written, or a predicate alone.
+pub data WholeText : Type 0 where
+  whole_policy : WrittenPolicy → WholeText
+  whole_predicate : Pred → WholeText
+
+-- what is read where the lexemes end: a predicate alone, where nothing stands around it
+abbrev pub finish_predicate : Pred → List Awaited → Option WholeText
+finish_predicate p [] = Some (whole_predicate p)
+finish_predicate p (_ ∷ _) = None
+
+abbrev pub finish_literals : List Pred → List Awaited → Option WholeText
+finish_literals ls (conjs ps ∷ k) = finish_predicate (any_of (ps ++ all_of ls ∷ [])) k
+finish_literals ls _ = None
+
+abbrev pub finish_text : List Awaited → Option WholeText
+finish_text (formula w ∷ []) = Some (whole_policy w)
+finish_text (terms_rest w ∷ []) = Some (whole_policy w)
+finish_text (whole_pred p ∷ k) = finish_predicate p k
+finish_text (conjs ps ∷ k) = finish_predicate (any_of ps) k
+finish_text (lits ls ∷ k) = finish_literals ls k
+finish_text _ = None
+
+abbrev pub next_text : Option State → ℕ → (State → Result WholeText ℕ) → Result WholeText ℕ
+next_text None n f = Err n
+next_text (Some s) n f = f s
+
+-- The machine's run over the lexemes of a policy or of a predicate: what they are as a whole, or how many are left where nothing goes on.
+abbrev pub run_text : List Lexeme → State → Result WholeText ℕ
+run_text [] s = ok_or (finish_text s.awaited) 0
+run_text (t ∷ ts) s = next_text (feed s t) (suc (length ts)) (λ u. run_text ts u)
+
 -- With a value the run goes on as it does after the phrase; a fault is the run's, by how many lexemes are left there. Memory may
 -- run out anywhere.
-abbrev pub AgreesWithRun : {X : Type 0} → Result X ReadError → (X → Result WrittenPolicy ℕ) → Result WrittenPolicy ℕ → Type 0
+abbrev pub AgreesWithRun : {X : Type 0} → Result X ReadError → (X → Result WholeText ℕ) → Result WholeText ℕ → Type 0
 AgreesWithRun (Ok x) after all = all ≡ after x
 AgreesWithRun (Err errors.Memory) after all = Unit {0}
 AgreesWithRun (Err (errors.Syntax n)) after all = all ≡ Err n
@@ -36,7 +68,7 @@ AgreesWithRun (Err (errors.Syntax n)) after all = all ≡ Err n
 -- A reader that stands at a state before these lexemes: with a value the run goes on with the rest of them from the state that the
 -- value leads to.
 abbrev pub Reads : {X : Type 0} → State → List Lexeme → Result (X × List Lexeme) ReadError → (X → State) → Type 0
-Reads from lexemes result to = AgreesWithRun result (λ read. run read.1 (to read.0)) (run lexemes from)
+Reads from lexemes result to = AgreesWithRun result (λ read. run_text read.1 (to read.0)) (run_text lexemes from)
 
 -- There is less to read after the phrase.
 abbrev pub Shortens : {X : Type 0} → List Lexeme → Result (X × List Lexeme) ReadError → Type 0
@@ -44,14 +76,18 @@ Shortens lexemes result = IfOk result (λ read. length read.1 < length lexemes)
 
 -- The same of a reader that has no value.
 abbrev pub Skips : State → List Lexeme → Result (List Lexeme) ReadError → State → Type 0
-Skips from lexemes result to = AgreesWithRun result (λ rest. run rest to) (run lexemes from)
+Skips from lexemes result to = AgreesWithRun result (λ rest. run_text rest to) (run_text lexemes from)
 
 abbrev pub ShortensTo : List Lexeme → Result (List Lexeme) ReadError → Type 0
 ShortensTo lexemes result = IfOk result (λ rest. length rest < length lexemes)
 
 -- The same of a reader that takes all lexemes: with a value they stand for this policy.
 abbrev pub ReadsAll : {X : Type 0} → State → List Lexeme → Result X ReadError → (X → WrittenPolicy) → Type 0
-ReadsAll from lexemes result policy = AgreesWithRun result (λ x. (let whole : Result WrittenPolicy ℕ = Ok (policy x) in whole)) (run lexemes from)
+ReadsAll from lexemes result policy = AgreesWithRun result (λ x. (let whole : Result WholeText ℕ = Ok (whole_policy (policy x)) in whole)) (run_text lexemes from)
+
+-- The same of a reader that takes all lexemes of a predicate alone: with a value they stand for this predicate.
+abbrev pub ReadsPredicate : State → List Lexeme → Result Pred ReadError → Type 0
+ReadsPredicate from lexemes result = AgreesWithRun result (λ pred. (let whole : Result WholeText ℕ = Ok (whole_predicate pred) in whole)) (run_text lexemes from)
 
 -- The reader found no phrase. It is so in each error of a reader that takes no memory.
 abbrev pub IsSyntax : ReadError → Type 0
@@ -92,6 +128,10 @@ closing a = after_sign signs.CloseGroup a
 
 abbrev pub pred_awaited : List Awaited → List Awaited
 pred_awaited k = literal ∷ lits [] ∷ conjs [] ∷ k
+
+-- a predicate alone
+abbrev pub first_pred : State
+first_pred = awaiting (pred_awaited []) MAX_TESTS
 
 abbrev pub path_awaited : List Awaited → List Awaited
 path_awaited k = rep ∷ reps [] ∷ alts [] ∷ k
@@ -249,6 +289,6 @@ abbrev pub after_term : WrittenPolicy → Term → State
 after_term w t = alone (terms_rest (with_term w t.bound t.parts t.rate))
 
 -- after a term: another one, or the whole policy
-abbrev pub more_terms : WrittenPolicy → Option (List Lexeme) → Result WrittenPolicy ℕ
-more_terms w (Some rest) = run rest (alone (term w))
-more_terms w None = Ok w
+abbrev pub more_terms : WrittenPolicy → Option (List Lexeme) → Result WholeText ℕ
+more_terms w (Some rest) = run_text rest (alone (term w))
+more_terms w None = Ok (whole_policy w)

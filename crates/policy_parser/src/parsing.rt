@@ -59,7 +59,7 @@ fn read(alloc: Global, bytes: &[u8], tokens: Cursor<'_>) -> Result<WrittenPolicy
 }
 
 // The byte at which a token starts, by its number; the end past the last one.
-fn place_of(bytes: &[u8], tokens: Cursor<'_>, number: usize) -> usize
+pub(crate) fn place_of(bytes: &[u8], tokens: Cursor<'_>, number: usize) -> usize
     ensures { result ≡ place bytes.now tokens.entry number }
 {
     let mut rest = tokens;

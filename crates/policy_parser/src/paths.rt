@@ -4,8 +4,8 @@ ghost use Rattle.std.specs.Prelude.{◌≡◌, ◌+◌, ◌≤◌, ℕ, List, []
 ghost use Rattle.policy_grammar.specs.declared.limits.TheConstants.{MAX_NESTING};
 ghost use Rattle.policy_grammar.specs.declared.written.RawPath.{RawPath};
 ghost use Rattle.policy_grammar.specs.PathTexts.{one_or_cat, one_or_alt};
-ghost use Rattle.policy_grammar.specs.Machine.{Awaited, rep as rep_awaited, prim, reps, alts, path_bracket, whole_path, put_path, opens, run, awaiting};
-ghost use Rattle.policy_parser.specs.Readers.{Reads, Shortens, IsInSequence, path_awaited, after_rep, after_sequence, after_path, begins_list, stars_list};
+ghost use Rattle.policy_grammar.specs.Machine.{Awaited, rep as rep_awaited, prim, reps, alts, path_bracket, whole_path, put_path, opens, awaiting};
+ghost use Rattle.policy_parser.specs.Readers.{run_text, Reads, Shortens, IsInSequence, path_awaited, after_rep, after_sequence, after_path, begins_list, stars_list};
 
 use crate::fault::ReadError;
 use crate::signs::{Read, next_of};
@@ -18,8 +18,8 @@ use std::alloc::Global;
 /// Whether there are stars, and what follows them.
 fn stars<'a>(lexemes: Lexemes<'a>) -> (bool, Lexemes<'a>)
     ensures reads { (p : RawPath) (k : List Awaited) (n : ℕ) →
-        run lexemes.entry (awaiting (prim p false ∷ k) n)
-        ≡ run result.1 (awaiting (prim p result.0 ∷ k) n) }
+        run_text lexemes.entry (awaiting (prim p false ∷ k) n)
+        ≡ run_text result.1 (awaiting (prim p result.0 ∷ k) n) }
     ensures all { stars_list result.1 ≡ false }
     ensures shorter { length result.1 ≤ length lexemes.entry }
 {

@@ -8,8 +8,8 @@ ghost use Rattle.policy_grammar.specs.declared.written.Item.{Item};
 ghost use Rattle.policy_grammar.specs.declared.written.RawPath.{RawPath};
 ghost use Rattle.policy_grammar.specs.declared.written.WrittenPolicy.{WrittenPolicy};
 ghost use Rattle.policy_grammar.specs.declared.written.WrittenSet.{WrittenSet};
-ghost use Rattle.policy_grammar.specs.Machine.{terms_rest, term as any_term, leading, summand, run};
-ghost use Rattle.policy_parser.specs.Readers.{AgreesWithRun, Reads, Shortens, ReadsAll, IsSyntax, alone, policy_with, after_list, term_awaited, after_leading, after_summand, after_sum, after_term, more_terms};
+ghost use Rattle.policy_grammar.specs.Machine.{terms_rest, term as any_term, leading, summand};
+ghost use Rattle.policy_parser.specs.Readers.{run_text, AgreesWithRun, Reads, Shortens, ReadsAll, IsSyntax, alone, policy_with, after_list, term_awaited, after_leading, after_summand, after_sum, after_term, more_terms};
 
 use crate::fault::ReadError;
 use crate::signs::{Read, bound_at, next_of, rate_at, sign_at};
@@ -95,7 +95,7 @@ fn term<'a>(alloc: Global, lexemes: Lexemes<'a>) -> Read<'a, Term>
 /// What follows `and`, if another term stands after this one. None at the end of the text.
 fn next_term<'a>(lexemes: Lexemes<'a>) -> Result<Option<Lexemes<'a>>, ReadError>
     ensures reads { (w : WrittenPolicy) →
-        AgreesWithRun result (more_terms w) (run lexemes.entry (alone (terms_rest w))) }
+        AgreesWithRun result (more_terms w) (run_text lexemes.entry (alone (terms_rest w))) }
     ensures shorter { IfOk result (λ r. IfSome r (λ rest. length rest < length lexemes.entry)) }
     ensures no_memory { IfErr result IsSyntax }
 {

@@ -1,7 +1,8 @@
 use Rattle.std.proofs.Common.{◌≡◌, ◌+◌, ◌<◌, ◌*◌, List, [], ◌∷◌, length}
 use Rattle.merlin_model.specs.declared.policy.Pred.{Pred}
 use Rattle.policy_grammar.specs.declared.limits.TheConstants.{MAX_NESTING}
-use Rattle.policy_grammar.specs.Machine.{Awaited, literal, lits, conjs, opens, run, awaiting}
+use Rattle.policy_grammar.specs.Machine.{Awaited, literal, lits, conjs, opens, awaiting}
+use Rattle.policy_parser.specs.Readers.{run_text}
 use Rattle.policy_parser.proofs.predicates.+predicate.Given as goal
 
 -- a bracket or a bang takes from the room, and the readers call each other in turn
@@ -16,7 +17,7 @@ decreases-predicate l = 3 * l.room + 2
 
 abbrev pub invariant-conjunction-literals : goal.invariant-conjunction-literals
 invariant-conjunction-literals l = record {
-  reads : (k : List Awaited) (ps : List Pred) → opens k + l.room ≡ MAX_NESTING → run l.fn.lexemes (awaiting (literal ∷ lits [] ∷ conjs ps ∷ k) l.fn.left) ≡ run l.rest (awaiting (lits l.parts ∷ conjs ps ∷ k) l.spare);
+  reads : (k : List Awaited) (ps : List Pred) → opens k + l.room ≡ MAX_NESTING → run_text l.fn.lexemes (awaiting (literal ∷ lits [] ∷ conjs ps ∷ k) l.fn.left) ≡ run_text l.rest (awaiting (lits l.parts ∷ conjs ps ∷ k) l.spare);
   shorter : length l.rest < length l.fn.lexemes;
 }
 
@@ -25,7 +26,7 @@ decreases-conjunction-literals l = length l.rest
 
 abbrev pub invariant-predicate-conjunctions : goal.invariant-predicate-conjunctions
 invariant-predicate-conjunctions l = record {
-  reads : (k : List Awaited) → opens k + l.room ≡ MAX_NESTING → run l.fn.lexemes (awaiting (literal ∷ lits [] ∷ conjs [] ∷ k) l.fn.left) ≡ run l.rest (awaiting (conjs l.parts ∷ k) l.spare);
+  reads : (k : List Awaited) → opens k + l.room ≡ MAX_NESTING → run_text l.fn.lexemes (awaiting (literal ∷ lits [] ∷ conjs [] ∷ k) l.fn.left) ≡ run_text l.rest (awaiting (conjs l.parts ∷ k) l.spare);
   shorter : length l.rest < length l.fn.lexemes;
 }
 

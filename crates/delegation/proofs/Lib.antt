@@ -1,0 +1,5 @@
+mod Steps
+mod Numbered
+mod Own
+mod Acceptance
+mod Compositions

@@ -1,0 +1,4 @@
+pub mod NamedJoins
+pub mod NamedTrees
+pub mod SharedScopes
+pub mod TreeRules

@@ -1,41 +1,38 @@
 -- From nodes that are accepted by themselves to nodes that are accepted with the compositions of their children.
-use Rattle.std.proofs.Common.{◌≡◌, ◌≢◌, ℕ, zero, suc, ◌+◌, ◌<◌, ◌==◌, Bool, true, false, cond, List, [], ◌∷◌, length, map, filter, Option, None, Some, IsSome, option_map, unwrap_or, slice_get, refl, sym, ◌∙◌, ap, subst, arith}
+use Rattle.std.proofs.Common.{◌≡◌, ◌≢◌, ℕ, zero, suc, ◌<◌, ◌==◌, Bool, true, false, cond, List, [], ◌∷◌, length, map, Option, None, Some, IsSome, option_map, unwrap_or, slice_get, refl, sym, ◌∙◌, ap, subst, arith}
 use Rattle.std.specs.Option.{option_map_or}
-use Rattle.std.specs.List.{AllByRecursion, zip}
+use Rattle.std.specs.List.{AllByRecursion}
 use Rattle.std.proofs.lemmas.Bool.{eqb-true}
 use Rattle.std.proofs.lemmas.Option.{slice_get-map}
 use Rattle.merlin_model.specs.Packets.{Packet, IsPacket}
 use Rattle.merlin_model.specs.Predicates.{holds}
 use Rattle.merlin_model.specs.Networks.{Network, AreDifferent, Pairwise}
-use Rattle.merlin_model.specs.Policies.{Policy as NumberedPolicy, match_of, paths_of, IsTotal}
-use Rattle.policy_expansion.specs.declared.policy.Statement.{Statement}
+use Rattle.merlin_model.specs.Policies.{match_of, paths_of}
 use Rattle.policy_expansion.specs.declared.policy.Policy.{Policy}
-use Rattle.policy_expansion.specs.Kept.{IsExpanded}
 use Rattle.policy_check.specs.Numbered.{numbered_statement, numbered_policy}
 use Rattle.policy_check.specs.Checked.{IsSoundPolicy}
 use Rattle.refinement_model.specs.Refinement.{Refines}
 use Rattle.refinement_model.specs.Localised.{localised_form}
-use Rattle.refinement_model.specs.Delegation.{Child, DelegationNode, HasNoSlash, HasIds, IsPlain, HasStatementForEach, HaveDisjointScopes, IsDelegationTree, children_of, join, default_id, IsLocallyAccepted, IsAcceptedWith}
+use Rattle.refinement_model.specs.Delegation.{Child, DelegationNode, HasNoSlash, IsPlain, HaveDisjointScopes, IsDelegationTree, children_of, join, default_id, IsLocallyAccepted, IsAcceptedWith}
 use Rattle.delegation.specs.declared.node.Node.{Node}
-use Rattle.delegation.specs.NamedJoins.{named_join}
 use Rattle.delegation.specs.NamedTrees.{IsTreeNode, IsNamedTree, HasParent, has_parent, children_with, own_policies, numbered_node, IsAcceptedUnder}
 use Rattle.delegation.specs.SharedScopes.{HasApartScopes}
 use Rattle.delegation.proofs.Own.{all-at}
 use Rattle.delegation.proofs.Numbered.{numbered_child, numbered-children, numbered-join, node-at}
 
-None-Some : {X : Type 0} {a : X} → None ≡ Some a → ⊥
+pub None-Some : {X : Type 0} {a : X} → None ≡ Some a → ⊥
 None-Some e = cc
 
 -- what holds at each place holds of each element, and of what is made of each
-each-mapped : {X Y : Type 0} (f : X → Y) (P : Y → Type 0) (xs : List X) → ((k : ℕ) (x : X) → slice_get xs k ≡ Some x → P (f x)) → AllByRecursion P (map f xs)
+pub each-mapped : {X Y : Type 0} (f : X → Y) (P : Y → Type 0) (xs : List X) → ((k : ℕ) (x : X) → slice_get xs k ≡ Some x → P (f x)) → AllByRecursion P (map f xs)
 each-mapped f P [] h = tt
 each-mapped f P (x ∷ xs) h = (h 0 x refl, each-mapped f P xs (λ k y e. h (suc k) y e))
 
-mapped-all : {X Y : Type 0} (f : X → Y) (P : Y → Type 0) (Q : X → Type 0) → ((x : X) → Q x → P (f x)) → (xs : List X) → AllByRecursion Q xs → AllByRecursion P (map f xs)
+pub mapped-all : {X Y : Type 0} (f : X → Y) (P : Y → Type 0) (Q : X → Type 0) → ((x : X) → Q x → P (f x)) → (xs : List X) → AllByRecursion Q xs → AllByRecursion P (map f xs)
 mapped-all f P Q g [] h = tt
 mapped-all f P Q g (x ∷ xs) h = (g x h.0, mapped-all f P Q g xs h.1)
 
-map-twice : {X Y Z : Type 0} (f : X → Y) (g : Y → Z) (h : X → Z) → ((x : X) → g (f x) ≡ h x) → (xs : List X) → map g (map f xs) ≡ map h xs
+pub map-twice : {X Y Z : Type 0} (f : X → Y) (g : Y → Z) (h : X → Z) → ((x : X) → g (f x) ≡ h x) → (xs : List X) → map g (map f xs) ≡ map h xs
 map-twice f g h e [] = refl
 map-twice f g h e (x ∷ xs) = ap (λ y. y ∷ map g (map f xs)) (e x) ∙ ap (λ l. h x ∷ l) (map-twice f g h e xs)
 
@@ -45,7 +42,7 @@ stands-within (x ∷ xs) zero l = refl
 stands-within (x ∷ xs) (suc k) l = stands-within xs k (omega arith)
 
 module _ (net : Network) where
-  plain-of : (node : Node) → IsTreeNode node → IsSoundPolicy (numbered_policy net node.policy) → IsPlain (numbered_policy net node.policy)
+  pub plain-of : (node : Node) → IsTreeNode node → IsSoundPolicy (numbered_policy net node.policy) → IsPlain (numbered_policy net node.policy)
   plain-of node h sound = record {
     ids = record {
       different = subst AreDifferent (sym (map-twice (numbered_statement net) (λ s. s.id) (λ s. s.id) (λ s. refl) node.policy.statements)) h.expanded.ids;
@@ -90,7 +87,7 @@ module _ (net : Network) where
     own-same = map-twice (numbered_node net) (λ n. n.policy) (λ n. numbered_policy net n.policy) (λ n. refl) nodes
         ∙ sym (map-twice (λ n. n.policy) (numbered_policy net) (λ n. numbered_policy net n.policy) (λ n. refl) nodes)
 
-    own-children : (k : ℕ) → children_of (map (numbered_node net) nodes) (map (λ n. n.policy) (map (numbered_node net) nodes)) k ≡ map (numbered_child net) (children_with nodes (own_policies nodes) k)
+    pub own-children : (k : ℕ) → children_of (map (numbered_node net) nodes) (map (λ n. n.policy) (map (numbered_node net) nodes)) k ≡ map (numbered_child net) (children_with nodes (own_policies nodes) k)
     own-children k = ap (λ ps. children_of (map (numbered_node net) nodes) ps k) own-same ∙ numbered-children net k nodes (own_policies nodes)
 
     pub tree-of : ((k : ℕ) (n : Node) → slice_get nodes k ≡ Some n → IsSoundPolicy (numbered_policy net n.policy)) → HasApartScopes nodes → IsDelegationTree (map (numbered_node net) nodes)

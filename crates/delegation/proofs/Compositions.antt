@@ -1,7 +1,7 @@
 -- Each tree has compositions, and the first node's has all statements of the tree.
-use Rattle.std.proofs.Common.{◌≡◌, ◌≢◌, ℕ, zero, suc, ◌+◌, ◌≤◌, ◌<◌, ◌==◌, ◌⊎◌, inl, inr, nat_lt, Bool, true, false, cond, List, [], ◌∷◌, ◌++◌, length, map, Option, None, Some, is_some, unwrap_or, slice_get, refl, sym, ◌∙◌, ap, subst, arith, sum_by}
+use Rattle.std.proofs.Common.{◌≡◌, ◌≢◌, ℕ, zero, suc, ◌+◌, ◌≤◌, ◌<◌, ◌==◌, ◌⊎◌, inl, inr, nat_lt, Bool, true, false, cond, List, [], ◌∷◌, ◌++◌, length, map, Option, None, Some, unwrap_or, slice_get, refl, sym, ◌∙◌, ap, arith, sum_by}
 use Rattle.std.specs.Option.{option_map_or, option_map, option_to_list}
-use Rattle.std.specs.List.{AllByRecursion, flat_map, zip}
+use Rattle.std.specs.List.{flat_map}
 use Rattle.std.proofs.lemmas.List.{length-append, length-map}
 use Rattle.std.proofs.lemmas.List.Sums.{sum_by-cons}
 use Rattle.std.proofs.lemmas.Bool.{cases_lt, cases_eq, lt-ltb, le-ltb, eq-eqb, ne_eqb}
@@ -43,7 +43,7 @@ children-count (c ∷ cs) =
     let e = sum_by-cons weight c cs in
     omega arith
 
-join-count : (raw : Policy) (cs : List (Node × Policy)) → statement_count (named_join raw cs) ≡ statement_count raw + sum_by weight cs
+pub join-count : (raw : Policy) (cs : List (Node × Policy)) → statement_count (named_join raw cs) ≡ statement_count raw + sum_by weight cs
 join-count raw cs =
     let scopes = map (λ c. c.0.scope) (map rated_child cs) in
     let a = long-map (λ (r : RatedStatement). r.statement) (flat_map statements_of_child (map rated_child cs) ++ map (statement_elsewhere scopes) (rated_policy raw).statements) in
@@ -86,7 +86,7 @@ one-more i m n = by n.parent
             more (inl e) = three true false true (lt-ltb p (suc i) (omega arith)) (le-ltb p i le) (eq-eqb p i e) (omega arith)
             more (inr ne) = three false false false (le-ltb p (suc i) (let q : p ≢ i = ne in omega arith)) (le-ltb p i le) (ne_eqb p i ne) (omega arith)
 
-under-cons : (i : ℕ) (n : Node) (p : Policy) (ns : List Node) (ps : List Policy) → sum_by weight (children_with (n ∷ ns) (p ∷ ps) i) ≡ cond (has_parent i n) (statement_count p) 0 + sum_by weight (children_with ns ps i)
+pub under-cons : (i : ℕ) (n : Node) (p : Policy) (ns : List Node) (ps : List Policy) → sum_by weight (children_with (n ∷ ns) (p ∷ ps) i) ≡ cond (has_parent i n) (statement_count p) 0 + sum_by weight (children_with ns ps i)
 under-cons i n p ns ps = by (has_parent i n)
   where
     by : (b : Bool) → sum_by weight (cond b ((n, p) ∷ children_with ns ps i) (children_with ns ps i)) ≡ cond b (statement_count p) 0 + sum_by weight (children_with ns ps i)
@@ -112,10 +112,10 @@ pub record AreFrom (i : ℕ) (ns : List Node) (ps : List Policy) : Type 0 where
   pub later : (j k : ℕ) (n : Node) → slice_get ns j ≡ Some n → i + j ≤ k → has_parent k n ≡ false
   pub each : (j : ℕ) (n : Node) → slice_get ns j ≡ Some n → slice_get ps j ≡ Some (composed_with n.policy (children_with ns ps (i + j)))
 
-passed : (k : ℕ) (n : Node) (p : Policy) (ns : List Node) (ps : List Policy) → has_parent k n ≡ false → children_with (n ∷ ns) (p ∷ ps) k ≡ children_with ns ps k
+pub passed : {P : Type 0} (k : ℕ) (n : Node) (p : P) (ns : List Node) (ps : List P) → has_parent k n ≡ false → children_with (n ∷ ns) (p ∷ ps) k ≡ children_with ns ps k
 passed k n p ns ps e = ap (λ b. cond b ((n, p) ∷ children_with ns ps k) (children_with ns ps k)) e
 
-rest-from : (i : ℕ) (n : Node) (p : Policy) (ns : List Node) (ps : List Policy) → AreFrom i (n ∷ ns) (p ∷ ps) → AreFrom (suc i) ns ps
+pub rest-from : (i : ℕ) (n : Node) (p : Policy) (ns : List Node) (ps : List Policy) → AreFrom i (n ∷ ns) (p ∷ ps) → AreFrom (suc i) ns ps
 rest-from i n p ns ps are = record {
   as_many = let e = are.as_many in omega arith;
   later = λ j k m e l. are.later (suc j) k m e (omega arith);
@@ -123,6 +123,11 @@ rest-from i n p ns ps are = record {
       let same : i + suc j ≡ suc i + j = omega arith in
       are.each (suc j) m e ∙ ap (λ cs. Some (composed_with m.policy cs)) (passed (i + suc j) n p ns ps (are.later 0 (i + suc j) n refl (omega arith)) ∙ ap (children_with ns ps) same);
 }
+
+pub first-from : (i : ℕ) (n : Node) (p : Policy) (ns : List Node) (ps : List Policy) → AreFrom i (n ∷ ns) (p ∷ ps) → p ≡ composed_with n.policy (children_with ns ps i)
+first-from i n p ns ps are =
+    let at : i + 0 ≡ i = omega arith in
+    ap (λ o. unwrap_or o p) (are.each 0 n refl) ∙ ap (composed_with n.policy) (ap (children_with (n ∷ ns) (p ∷ ps)) at ∙ passed i n p ns ps (are.later 0 i n refl (omega arith)))
 
 -- what the tops weigh is what all nodes weigh by themselves
 pub tops-all : (i : ℕ) (ns : List Node) (ps : List Policy) → AreFrom i ns ps → tops i ns ps ≡ own_weight ns
@@ -132,9 +137,7 @@ tops-all i (n ∷ ns) [] are = let e = are.as_many in let no : ⊥ = omega arith
 tops-all i (n ∷ ns) (p ∷ ps) are =
     let rest = tops-all (suc i) ns ps (rest-from i n p ns ps are) in
     let more = tops-more i ns ps in
-    let at : i + 0 ≡ i = omega arith in
-    let is : p ≡ composed_with n.policy (children_with ns ps i) = ap (λ o. unwrap_or o p) (are.each 0 n refl) ∙ ap (composed_with n.policy) (ap (children_with (n ∷ ns) (p ∷ ps)) at ∙ passed i n p ns ps (are.later 0 i n refl (omega arith))) in
-    let count = ap statement_count is ∙ composed-count n.policy (children_with ns ps i) in
+    let count = ap statement_count (first-from i n p ns ps are) ∙ composed-count n.policy (children_with ns ps i) in
     let top : cond (is_top i n) (statement_count p) 0 ≡ statement_count p = ap (λ (b : Bool). cond {A = ℕ} b (statement_count p) 0) (top-of i n (λ k l. are.later 0 k n refl (omega arith))) in
     let all = sum_by-cons (λ (n : Node). statement_count n.policy) n ns in
     omega arith
@@ -208,9 +211,7 @@ each-within i (n ∷ ns) (q ∷ ps) are zero p e =
     let same : q ≡ p = ap (λ o. unwrap_or o q) e in
     let rest = tops-all (suc i) ns ps (rest-from i n q ns ps are) in
     let more = tops-more i ns ps in
-    let at : i + 0 ≡ i = omega arith in
-    let is : q ≡ composed_with n.policy (children_with ns ps i) = ap (λ o. unwrap_or o q) (are.each 0 n refl) ∙ ap (composed_with n.policy) (ap (children_with (n ∷ ns) (q ∷ ps)) at ∙ passed i n q ns ps (are.later 0 i n refl (omega arith))) in
-    let count = ap statement_count (sym same ∙ is) ∙ composed-count n.policy (children_with ns ps i) in
+    let count = ap statement_count (sym same ∙ first-from i n q ns ps are) ∙ composed-count n.policy (children_with ns ps i) in
     let all = sum_by-cons (λ (n : Node). statement_count n.policy) n ns in
     omega arith
 each-within i (n ∷ ns) (q ∷ ps) are (suc j) p e =

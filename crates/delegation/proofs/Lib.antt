@@ -3,3 +3,10 @@ mod Numbered
 mod Own
 mod Acceptance
 mod Compositions
+mod Formed
+mod Judgement
+mod FewStates
+mod Unrefused
+mod Written
+mod Ids
+mod Backwards

@@ -1,13 +1,13 @@
 -- Joins and trees over names, and the same over the numbers of a network.
-use Rattle.std.proofs.Common.{◌≡◌, ℕ, zero, suc, ◌+◌, ◌<◌, ◌==◌, Bool, true, false, cond, List, [], ◌∷◌, ◌++◌, length, map, filter, Option, None, Some, option_map, unwrap_or, slice_get, refl, sym, ◌∙◌, ap, ap₂, subst, arith}
-use Rattle.std.specs.Option.{option_map_or, option_to_list}
+use Rattle.std.proofs.Common.{◌≡◌, ℕ, zero, suc, Bool, true, false, cond, List, [], ◌∷◌, ◌++◌, map, filter, Option, None, Some, option_map, unwrap_or, slice_get, refl, sym, ◌∙◌, ap, ap₂}
+use Rattle.std.specs.Option.{option_to_list}
 use Rattle.std.specs.List.{zip, flat_map}
 use Rattle.std.proofs.lemmas.List.{map-append, length-map}
 use Rattle.std.proofs.lemmas.Option.{slice_get-map}
 use Rattle.merlin_model.specs.declared.policy.Path.{Path}
 use Rattle.merlin_model.specs.declared.policy.Pred.{Pred, AnyOf, Not}
 use Rattle.merlin_model.specs.Networks.{Network}
-use Rattle.merlin_model.specs.Policies.{Policy as NumberedPolicy, Statement as NumberedStatement}
+use Rattle.merlin_model.specs.Policies.{Policy as NumberedPolicy}
 use Rattle.policy_grammar.specs.declared.written.RawPath.{RawPath}
 use Rattle.policy_grammar.specs.NumberedPaths.{numbered}
 use Rattle.policy_names.specs.Names.{meaning_of}

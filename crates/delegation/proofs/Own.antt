@@ -1,5 +1,5 @@
 -- What is asked of each node by itself.
-use Rattle.std.proofs.Common.{◌≡◌, ℕ, zero, suc, ◌+◌, ◌<◌, ◌≤◌, ◌⊎◌, inl, inr, List, [], ◌∷◌, ◌++◌, length, map, take, get_or, Some, unwrap_or, slice_get, refl, sym, ◌∙◌, ap, subst, arith}
+use Rattle.std.proofs.Common.{◌≡◌, ℕ, zero, suc, ◌+◌, ◌<◌, ◌≤◌, ◌⊎◌, inl, inr, List, [], ◌∷◌, length, map, get_or, Some, unwrap_or, slice_get, refl, sym, ◌∙◌, ap, subst, arith}
 use Rattle.std.specs.List.{AllByRecursion}
 use Rattle.std.proofs.lemmas.Bool.{cases_lt}
 use Rattle.merlin_model.specs.Networks.{Network}
@@ -39,3 +39,17 @@ so-more Q nodes k n e q h i m l f = by (cases_lt i k)
     by : (i < k) ⊎ (k ≤ i) → Q i m
     by (inl lt) = h i m lt f
     by (inr le) = let same : k ≡ i = omega arith in subst (λ j. Q j m) same (subst (Q k) (ap (λ o. unwrap_or o n) (sym e ∙ ap (slice_get nodes) same ∙ f)) q)
+
+-- the same where the answer is the place's alone
+pub so-more-at : (Q : ℕ → Type 0) (nodes : List Node) (k : ℕ) → Q k → ((i : ℕ) (m : Node) → i < k → slice_get nodes i ≡ Some m → Q i) → (i : ℕ) (m : Node) → i < k + 1 → slice_get nodes i ≡ Some m → Q i
+so-more-at Q nodes k q h i m l f = by (cases_lt i k)
+  where
+    by : (i < k) ⊎ (k ≤ i) → Q i
+    by (inl lt) = h i m lt f
+    by (inr le) = let same : k ≡ i = omega arith in subst Q same q
+
+-- what stands at a place of a list
+pub there : {X : Type 0} (xs : List X) (k : ℕ) → k < length xs → (x : X) × (slice_get xs k ≡ Some x)
+there [] k l = let no : ⊥ = omega arith in absurd no
+there (x ∷ xs) zero l = (x, refl)
+there (x ∷ xs) (suc k) l = there xs k (omega arith)

@@ -1,6 +1,6 @@
 -- One step of a loop over the nodes of a tree, or over the statements of a policy.
 use Rattle.std.proofs.Common.{◌≡◌, ℕ, zero, suc, ◌+◌, ◌<◌, Bool, true, false, cond, List, [], ◌∷◌, ◌++◌, length, map, filter, take, get_or, None, refl, sym, ◌∙◌, ap, ap₂, arith}
-use Rattle.std.specs.List.{zip, enumerate_from, flat_map}
+use Rattle.std.specs.List.{enumerate_from, flat_map}
 use Rattle.std.proofs.lemmas.List.{take_more, map-append}
 use Rattle.std.proofs.lemmas.Grind.{flat_map-append}
 use Rattle.merlin_model.specs.declared.policy.Term.{Term}

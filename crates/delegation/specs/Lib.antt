@@ -1,3 +1,5 @@
+pub mod Asking
+pub mod JoinChecks
 pub mod NamedJoins
 pub mod NamedTrees
 pub mod SharedScopes

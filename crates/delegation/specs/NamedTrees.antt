@@ -1,5 +1,5 @@
 -- Delegation trees: what a caller hands in, and what the nodes of a tree say together.
-use Rattle.std.specs.Prelude.{ℕ, suc, ◌≡◌, ◌≢◌, ◌≤◌, ◌<◌, ◌+◌, ◌==◌, Bool, false, List, [], ◌∷◌, map, filter, length, None, Some, slice_get}
+use Rattle.std.specs.Prelude.{ℕ, suc, ◌≡◌, ◌≢◌, ◌≤◌, ◌<◌, ◌+◌, ◌++◌, ◌==◌, Bool, false, List, [], ◌∷◌, map, filter, length, take, drop, None, Some, slice_get}
 use Rattle.std.specs.Option.{option_map_or}
 use Rattle.std.specs.List.{AllByRecursion, enumerate_from, zip}
 use Rattle.merlin_model.specs.declared.policy.Pred.{Pred}
@@ -67,6 +67,10 @@ pub record AreNamedCompositions (nodes : List Node) (compositions : List Policy)
   pub as_many : length compositions ≡ length nodes
   pub each : (k : ℕ) (node : Node) → slice_get nodes k ≡ Some node →
       slice_get compositions k ≡ Some (composed_with node.policy (children_with nodes compositions k))
+
+-- the nodes' own policies, and from node k on their compositions
+abbrev pub composed_from : List Node → List Policy → ℕ → List Policy
+composed_from nodes compositions k = take k (own_policies nodes) ++ drop k compositions
 
 -- this is the composition of node k
 pub record IsCompositionOf (nodes : List Node) (k : ℕ) (composition : Policy) : Type 0 where

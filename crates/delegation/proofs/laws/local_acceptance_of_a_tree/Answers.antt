@@ -1,4 +1,4 @@
-use Rattle.std.proofs.Common.{map, Some, option_map, ◌∙◌, ap, subst}
+use Rattle.std.proofs.Common.{map, option_map, ◌∙◌, ap, subst}
 use Rattle.std.proofs.lemmas.Option.{slice_get-map}
 use Rattle.policy_check.specs.Numbered.{numbered_policy}
 use Rattle.delegation.specs.NamedTrees.{numbered_node}

@@ -19,12 +19,12 @@ use Rattle.merlin_model.specs.declared.policy.Pred.{Pred}
 use Rattle.merlin_model.specs.declared.network.HostAddress.{HostAddress}
 use Rattle.predicate_split.specs.Cells.{cells_between, RefusesCells}
 use Rattle.predicate_split.specs.Left.{entries_at, named_by}
-use Rattle.predicate_split.specs.Grids.{ports_by, port_choices, chosen_cell, row_of, rows_of, rows_under, grid_size, other_cells, cells_left, RefusesRoom}
+use Rattle.predicate_split.specs.Grids.{ports_by, port_choices, chosen_cell, cell_row, rows_of, rows_under, grid_size, other_cells, cells_left, RefusesRoom}
 
 length-rows : (entries : List PlacedPred) (p : Packet) (sports dports : List Choice) → length (rows_of entries p sports dports) ≡ length sports * length dports
 length-rows entries p [] dports = sym (zero-mul (length dports))
 length-rows entries p (sport ∷ rest) dports =
-    length-append (row_of entries p sport dports) (rows_of entries p rest dports)
+    length-append (cell_row entries p sport dports) (rows_of entries p rest dports)
     ∙ ap₂ (λ (a b : ℕ). a + b) (length-map dports (chosen_cell entries p sport)) (length-rows entries p rest dports)
     ∙ turned (length dports) (length rest * length dports)
     ∙ sym (suc-mul (length rest) (length dports))

@@ -24,7 +24,7 @@ use Rattle.predicate_split.specs.Classes.{zero_packet}
 use Rattle.predicate_split.specs.Overlaps.{preds_in, holder, entry_residue}
 use Rattle.predicate_split.specs.Left.{left_between, entries_between, entries_at, named_by}
 use Rattle.predicate_split.specs.Cells.{owner_from, between_hosts, packet_between, protos, ports_under, value_of, choices, cell_of, cells_under, cells_between}
-use Rattle.predicate_split.specs.Grids.{ports_by, choice_of, port_choices, chosen_packet, chosen_cell, row_of, rows_of, NamesPorts, rows_under, other_cells, cells_left}
+use Rattle.predicate_split.specs.Grids.{ports_by, choice_of, port_choices, chosen_packet, chosen_cell, cell_row, rows_of, NamesPorts, rows_under, other_cells, cells_left}
 use Rattle.predicate_split.proofs.Splitting.{mentioned-below}
 use Rattle.predicate_split.proofs.TwoHolders.{no-holds}
 use Rattle.predicate_split.proofs.Owners.{GoesBetween, between-holds, left-fresh, under-fresh, no_block}
@@ -210,7 +210,7 @@ flat_map-alike f g same [] = refl
 flat_map-alike f g same (n ∷ ns) = ap₂ (λ (a b : List Cell). a ++ b) (same n) (flat_map-alike f g same ns)
 
 row-alike : (es : List PlacedPred) (p : Packet) (s : Choice) (ds : List ℕ) (g : Option ℕ → Cell) (bs : List (Option ℕ)) →
-    ((b : Option ℕ) → In b bs → chosen_cell es p s (choice_of ds b) ≡ g b) → row_of es p s (map (choice_of ds) bs) ≡ map g bs
+    ((b : Option ℕ) → In b bs → chosen_cell es p s (choice_of ds b) ≡ g b) → cell_row es p s (map (choice_of ds) bs) ≡ map g bs
 row-alike es p s ds g [] same = refl
 row-alike es p s ds g (b ∷ bs) same = ap₂ (λ (c : Cell) (l : List Cell). c ∷ l) (same b (inl refl)) (row-alike es p s ds g bs (λ d i. same d (inr i)))
 

@@ -12,7 +12,7 @@ use Rattle.predicate_split.specs.declared.pair_cells.Cell.{Cell}
 use Rattle.predicate_split.specs.declared.grids.Choice.{Choice}
 use Rattle.predicate_split.specs.Overlaps.{holder, entry_residue}
 use Rattle.predicate_split.specs.Left.{entries_at}
-use Rattle.predicate_split.specs.Grids.{chosen_packet, chosen_cell, row_of}
+use Rattle.predicate_split.specs.Grids.{chosen_packet, chosen_cell, cell_row}
 use Rattle.predicate_split.proofs.TwoHolders.{no-holds}
 
 pub holder-at : (f : Field) (v : ℕ) (q : Packet) → field_of f q ≡ v → (entries : List PlacedPred) → holder (entries_at f v entries) q ≡ holder entries q
@@ -49,9 +49,9 @@ cell-at entries p sport dport =
     ap (λ (owner : Option ℕ). record { proto = Some p.proto; sport = sport.port; dport = dport.port; owner = owner })
     (holder-at Sport (packet_with p Sport sport.value).sport (chosen_packet p sport dport) (sport-kept p sport dport) entries)
 
-pub row-at : (entries : List PlacedPred) (p : Packet) (sport : Choice) (dports : List Choice) → row_of (entries_at Sport (packet_with p Sport sport.value).sport entries) p sport dports ≡ row_of entries p sport dports
+pub row-at : (entries : List PlacedPred) (p : Packet) (sport : Choice) (dports : List Choice) → cell_row (entries_at Sport (packet_with p Sport sport.value).sport entries) p sport dports ≡ cell_row entries p sport dports
 row-at entries p sport [] = refl
 row-at entries p sport (dport ∷ rest) = ap₂ (λ (c : Cell) (l : List Cell). c ∷ l) (cell-at entries p sport dport) (row-at entries p sport rest)
 
-pub row-left : (entries kept : List PlacedPred) (p : Packet) (sport : Choice) (dports : List Choice) (v : ℕ) → v ≡ (packet_with p Sport sport.value).sport → kept ≡ entries_at Sport v entries → row_of kept p sport dports ≡ row_of entries p sport dports
-row-left entries kept p sport dports v e k = ap (λ (es : List PlacedPred). row_of es p sport dports) (k ∙ ap (λ (n : ℕ). entries_at Sport n entries) e) ∙ row-at entries p sport dports
+pub row-left : (entries kept : List PlacedPred) (p : Packet) (sport : Choice) (dports : List Choice) (v : ℕ) → v ≡ (packet_with p Sport sport.value).sport → kept ≡ entries_at Sport v entries → cell_row kept p sport dports ≡ cell_row entries p sport dports
+row-left entries kept p sport dports v e k = ap (λ (es : List PlacedPred). cell_row es p sport dports) (k ∙ ap (λ (n : ℕ). entries_at Sport n entries) e) ∙ row-at entries p sport dports

@@ -12,7 +12,7 @@ use Rattle.predicate_split.specs.declared.pairs.PlacedPred.{PlacedPred}
 use Rattle.predicate_split.specs.declared.stretches.Stretch.{Stretch}
 use Rattle.predicate_split.specs.Overlaps.{holder}
 use Rattle.predicate_split.specs.Stretches.{IsInStretch, HaveSameHolder}
-use Rattle.predicate_split.specs.Grids.{chosen_packet, row_of, rows_of}
+use Rattle.predicate_split.specs.Grids.{chosen_packet, cell_row, rows_of}
 
 -- Entry by entry.
 
@@ -78,15 +78,15 @@ all-more P (x ∷ cs) c h one = (h.0, all-more P cs c h.1 one)
 -- Cells by what is left.
 
 pub row-near : (stretch : Stretch) (near entries : List PlacedPred) (p : Packet) (s : Choice) (ds : List Choice) → HaveSameHolder stretch near entries →
-    AllByRecursion (λ d. IsInStretch stretch (chosen_packet p s d)) ds → row_of near p s ds ≡ row_of entries p s ds
+    AllByRecursion (λ d. IsInStretch stretch (chosen_packet p s d)) ds → cell_row near p s ds ≡ cell_row entries p s ds
 row-near stretch near entries p s [] same at = refl
 row-near stretch near entries p s (d ∷ ds) same at =
     ap₂ (λ (o : Option ℕ) (cs : List Cell). record { proto = Some p.proto; sport = s.port; dport = d.port; owner = o } ∷ cs) (same (chosen_packet p s d) at.0) (row-near stretch near entries p s ds same at.1)
 
 pub row-same : (stretch : Stretch) (near slice entries : List PlacedPred) (p fixed : Packet) (s : Choice) (ds : List Choice) → fixed ≡ packet_with p Sport s.value → slice ≡ near → HaveSameHolder stretch near entries →
-    AllByRecursion (λ d. IsInStretch stretch (packet_with fixed Dport d.value)) ds → row_of slice p s ds ≡ row_of entries p s ds
+    AllByRecursion (λ d. IsInStretch stretch (packet_with fixed Dport d.value)) ds → cell_row slice p s ds ≡ cell_row entries p s ds
 row-same stretch near slice entries p fixed s ds is e same at =
-    ap (λ es. row_of es p s ds) e
+    ap (λ es. cell_row es p s ds) e
     ∙ row-near stretch near entries p s ds same (subst (λ (q : Packet). AllByRecursion (λ d. IsInStretch stretch (packet_with q Dport d.value)) ds) is at)
 
 -- the source port does not change where the destination port is set

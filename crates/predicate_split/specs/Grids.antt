@@ -44,11 +44,11 @@ chosen_cell entries p sport dport = record {
   owner = holder entries (chosen_packet p sport dport);
 }
 
-abbrev pub row_of : List PlacedPred → Packet → Choice → List Choice → List Cell
-row_of entries p sport dports = map (chosen_cell entries p sport) dports
+abbrev pub cell_row : List PlacedPred → Packet → Choice → List Choice → List Cell
+cell_row entries p sport dports = map (chosen_cell entries p sport) dports
 
 abbrev pub rows_of : List PlacedPred → Packet → List Choice → List Choice → List Cell
-rows_of entries p sports dports = flat_map (λ sport. row_of entries p sport dports) sports
+rows_of entries p sports dports = flat_map (λ sport. cell_row entries p sport dports) sports
 
 -- what tells packets of a protocol apart
 pub record IsGrid (left : List PlacedPred) (proto : ℕ) (grid : Grid) : Type 0 where

@@ -2,7 +2,7 @@
 
 ghost use Rattle.std.specs.Prelude.{◌≡◌, ◌<◌, ◌≤◌, ◌*◌, ◌^◌, ◌++◌, ℕ, [], if◌then◌else◌, true, false, IfOk, OnOk, MatchOption};
 ghost use Rattle.std.specs.List.{AllByRecursion};
-ghost use Rattle.predicate_split.specs.Grids.{ports_by as ports_named, port_choices, row_of, rows_of, IsGrid, NamesPorts, cells_in};
+ghost use Rattle.predicate_split.specs.Grids.{ports_by as ports_named, port_choices, cell_row, rows_of, IsGrid, NamesPorts, cells_in};
 ghost use Rattle.merlin_model.specs.Packets.{field_of};
 ghost use Rattle.merlin_model.specs.Predicates.{IsPort};
 ghost use Rattle.packet_model.specs.Fields.{packet_with};
@@ -126,7 +126,7 @@ fn add_few_cells(
     cells: &mut Vec<Cell>,
 ) -> Result<(), OutOfMemory>
     ensures { OnOk result (cells.new.items ≡
-        cells.old.items ++ row_of entries.now packet sport dports.now) }
+        cells.old.items ++ cell_row entries.now packet sport dports.now) }
 {
     let packet = packet.with(Field::Sport, u64::from(sport.value));
     for dport in dports {
@@ -153,7 +153,7 @@ fn add_cells(
     cells: &mut Vec<Cell>,
 ) -> Result<(), OutOfMemory>
     ensures { OnOk result (cells.new.items ≡
-        cells.old.items ++ row_of entries.now packet sport dports.now) }
+        cells.old.items ++ cell_row entries.now packet sport dports.now) }
 {
     if dports.len() <= FEW {
         return add_few_cells(alloc, entries, packet, sport, dports, cells);
@@ -174,7 +174,7 @@ fn add_near_cells(
     cells: &mut Vec<Cell>,
 ) -> Result<(), OutOfMemory>
     ensures { OnOk result (cells.new.items ≡
-        cells.old.items ++ row_of entries.now packet sport dports.now) }
+        cells.old.items ++ cell_row entries.now packet sport dports.now) }
 {
     let fixed = packet.with(Field::Sport, u64::from(sport.value));
     let stretch = stretch_of(fixed, Field::Dport, dports);
@@ -192,7 +192,7 @@ fn add_row(
     cells: &mut Vec<Cell>,
 ) -> Result<(), OutOfMemory>
     ensures { OnOk result (cells.new.items ≡
-        cells.old.items ++ row_of entries.now packet sport dports.now) }
+        cells.old.items ++ cell_row entries.now packet sport dports.now) }
 {
     let fixed = packet.with(Field::Sport, u64::from(sport.value));
     let left = entries_at(alloc, entries, Field::Sport, fixed.value(Field::Sport))?;

@@ -5,7 +5,7 @@ use Rattle.merlin_model.specs.declared.certificate.Tree.{Tree}
 use Rattle.merlin_model.specs.Trees.{nodes_of, root_box, has_open_end}
 use Rattle.bound_search.specs.declared.outcome.Best.{Best}
 use Rattle.bound_search.specs.Growing.{AreKept, AreChosen}
-use Rattle.bound_search.specs.Outcomes.{IsInBudget}
+use Rattle.bound_search.specs.Outcomes.{IsTreeInBudget}
 
 -- the points of so many variables for which a test holds
 abbrev pub one_if : Bool → ℕ
@@ -35,5 +35,5 @@ IsBestSoFar K instance neat takes value (Some best) = IsBest K instance neat tak
 pub record IsRootTree (program : Program) (easy : List (Option Bool) → Type 0) (chose : List (Option Bool) → ℕ → Type 0) (budget : ℕ) (tree : Tree) : Type 0 where
   pub kept : AreKept program easy (nodes_of tree (root_box program))
   pub chosen : AreChosen program chose (nodes_of tree (root_box program))
-  pub in_budget : IsInBudget budget program tree
+  pub in_budget : IsTreeInBudget budget program tree
   pub spent : has_open_end (nodes_of tree (root_box program)) ≡ true → budget < length (nodes_of tree (root_box program)) + 2

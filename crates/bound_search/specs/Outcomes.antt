@@ -8,8 +8,8 @@ use Rattle.bound_search.specs.declared.outcome.Outcome.{Outcome}
 use Rattle.bound_search.specs.declared.outcome.Outcome.TheVariants.{Least, Infeasible, Budget}
 use Rattle.bound_search.specs.Growing.{AreKept, AreChosen}
 
-abbrev pub IsInBudget : ℕ → Program → Tree → Type 0
-IsInBudget budget program tree = length (nodes_of tree (root_box program)) ≤ budget
+abbrev pub IsTreeInBudget : ℕ → Program → Tree → Type 0
+IsTreeInBudget budget program tree = length (nodes_of tree (root_box program)) ≤ budget
 
 -- a neat solution below which there is none, with a tree that shows it
 pub record IsLeastPoint (K : Type 0) (instance : Option K → Program) (neat : List Bool → Type 0) (below : K → K → Bool) (value : List Bool → K)
@@ -20,18 +20,18 @@ pub record IsLeastPoint (K : Type 0) (instance : Option K → Program) (neat : L
   pub least : (other : List Bool) → IsSolution (instance None) other → below (value other) cutoff ≡ false
   pub refutes : Refutes (instance (Some cutoff)) tree (root_box (instance (Some cutoff)))
   pub chosen : AreChosen (instance (Some cutoff)) chose (nodes_of tree (root_box (instance (Some cutoff))))
-  pub in_budget : IsInBudget budget (instance (Some cutoff)) tree
+  pub in_budget : IsTreeInBudget budget (instance (Some cutoff)) tree
 
 -- no solution at all, with a tree that shows it
 pub record HasNone (K : Type 0) (instance : Option K → Program) (chose : List (Option Bool) → ℕ → Type 0) (budget : ℕ) (tree : Tree) : Type 0 where
   pub none : (point : List Bool) → ¬ IsSolution (instance None) point
   pub refutes : Refutes (instance None) tree (root_box (instance None))
   pub chosen : AreChosen (instance None) chose (nodes_of tree (root_box (instance None)))
-  pub in_budget : IsInBudget budget (instance None) tree
+  pub in_budget : IsTreeInBudget budget (instance None) tree
 
 -- A tree whose nodes are spent: two more would pass the budget, and an end is open. Its leaves refute, and no easy box was split or left open.
 pub record IsSpent (program : Program) (easy : List (Option Bool) → Type 0) (chose : List (Option Bool) → ℕ → Type 0) (budget : ℕ) (tree : Tree) : Type 0 where
-  pub in_budget : IsInBudget budget program tree
+  pub in_budget : IsTreeInBudget budget program tree
   pub spent : budget < length (nodes_of tree (root_box program)) + 2
   pub open_end : has_open_end (nodes_of tree (root_box program)) ≡ true
   pub kept : AreKept program easy (nodes_of tree (root_box program))

@@ -8,7 +8,7 @@ use Rattle.merlin_model.specs.Trees.{fixed_at, least_addition}
 use Rattle.integer_program.specs.Bounds.{IsBounded}
 use Rattle.integer_program.proofs.Bounds.{within-add, within-taken}
 use Rattle.certificate.specs.declared.sums.Sums.{Sums}
-use Rattle.certificate.specs.Adding.{sum_at, IsSmall, least_sum}
+use Rattle.certificate.specs.Adding.{sum_at, AreSumsWithin, least_sum}
 
 -- sums of two functions that differ at one number only
 outside : (f g : ℕ → ℤ) (u a n : ℕ) → ((v : ℕ) → v ≢ u → g v ≡ f v) → u < a → total (map g (range_with_len a n)) ≡ total (map f (range_with_len a n))
@@ -84,7 +84,7 @@ added_least program box variable amount before after is h size least =
     ∙ ap (λ z. (least_sum program box before.by_variable +ℤ z) -ℤ f variable) (sym at) ∙ sym change ∙ ap (least_sum program box) (sym is.coefficient)
 
 pub added_small : (box : Option Bool) (upper : Bool) (variable : ℕ) (amount : ℤ) (before after : Sums) (bound more : ℕ) → IsAdded box upper variable amount before after → variable < length before.by_variable →
-    IsBounded more amount → IsSmall bound before → IsSmall (bound + more) after
+    IsBounded more amount → AreSumsWithin bound before → AreSumsWithin (bound + more) after
 added_small box upper variable amount before after bound more is h a small = record {
   each = λ v. subst (IsBounded (bound + more)) (sym (added_each box upper variable amount before after is h v)) (within-add bound more (sum_at before v) _ (small.each v) (within-taken more (variable == v) amount a));
   least = subst (IsBounded (bound + more)) (sym (is.least ∙ regroup)) (within-add bound more before.least _ small.least (moves box upper more (sum_at before variable) amount a));

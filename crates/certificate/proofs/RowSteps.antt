@@ -10,7 +10,7 @@ use Rattle.merlin_model.proofs.Sums.{*ℤ-+ℤ, taken-mul, coefficient_in-cons}
 use Rattle.integer_program.specs.Bounds.{IsBounded}
 use Rattle.integer_program.proofs.Bounds.{within, within-more}
 use Rattle.certificate.specs.declared.sums.Sums.{Sums}
-use Rattle.certificate.specs.Adding.{sum_at, IsSmall, least_sum}
+use Rattle.certificate.specs.Adding.{sum_at, AreSumsWithin, least_sum}
 use Rattle.certificate.proofs.Places.{IsAdded, added_each, added_least, added_small}
 
 abs-within : (bound : ℕ) (z : ℤ) → IsBounded bound z → nat_abs z ≤ bound
@@ -39,7 +39,7 @@ pub record IsRowSum (program : Program) (box : List (Option Bool)) (entries : Li
   pub size : length sums.by_variable ≡ variables program
   pub each : (v : ℕ) → sum_at sums v ≡ sum_at start v +ℤ (weight *ℤ coefficient_in v (take k entries))
   pub least : sums.least ≡ least_sum program box sums.by_variable
-  pub small : (bound : ℕ) → IsSmall bound start → IsSmall (bound + k * 2 ^ 90) sums
+  pub small : (bound : ℕ) → AreSumsWithin bound start → AreSumsWithin (bound + k * 2 ^ 90) sums
 
 pub row_none : (program : Program) (box : List (Option Bool)) (entries : List (ℕ × ℤ)) (weight : ℤ) (start : Sums) → length start.by_variable ≡ variables program → start.least ≡ least_sum program box start.by_variable →
     IsRowSum program box entries weight start 0 start
@@ -47,7 +47,7 @@ row_none program box entries weight start size least = record {
   size = size;
   each = λ v. omega (arith, ints);
   least = least;
-  small = λ bound small. subst (λ b. IsSmall b start) (let e : bound ≡ bound + 0 * 2 ^ 90 = omega arith in e) small;
+  small = λ bound small. subst (λ b. AreSumsWithin b start) (let e : bound ≡ bound + 0 * 2 ^ 90 = omega arith in e) small;
 }
 
 pub row_more : (program : Program) (box : List (Option Bool)) (entries : List (ℕ × ℤ)) (weight amount : ℤ) (start before after : Sums) (k : ℕ) → k < length entries →
@@ -59,7 +59,7 @@ row_more program box entries weight amount start before after k h is exists e wi
   each = λ v. added_each _ _ variable amount before after added in_range v ∙ ap (λ z. z +ℤ coefficient_if (variable == v) amount) (is.each v) ∙ regroup v;
   least = added_least program box variable amount before after added exists is.size is.least;
   small = λ bound small.
-      subst (λ b. IsSmall b after) (let same : bound + k * 2 ^ 90 + 2 ^ 90 ≡ bound + (k + 1) * 2 ^ 90 = omega arith in same)
+      subst (λ b. AreSumsWithin b after) (let same : bound + k * 2 ^ 90 + 2 ^ 90 ≡ bound + (k + 1) * 2 ^ 90 = omega arith in same)
       (added_small _ _ variable amount before after (bound + k * 2 ^ 90) (2 ^ 90) added in_range within (is.small bound small));
 }
   where
@@ -81,12 +81,12 @@ row_more program box entries weight amount start before after k h is exists e wi
         sym (*ℤ-+ℤ weight c (t (get_or entries k (0, pos 0)).1)) ∙ ap (λ z. weight *ℤ z) (sym (coefficient_in-more v entries k h)) in
         omega (arith, ints)
 
-pub small-more : (m n : ℕ) (sums : Sums) → m ≤ n → IsSmall m sums → IsSmall n sums
+pub small-more : (m n : ℕ) (sums : Sums) → m ≤ n → AreSumsWithin m sums → AreSumsWithin n sums
 small-more m n sums h small = record { each = λ v. within-more m n (sum_at sums v) h (small.each v); least = within-more m n sums.least h small.least }
 
 -- while a row is added to small sums they stay small
 pub row_small : (program : Program) (box : List (Option Bool)) (entries : List (ℕ × ℤ)) (weight : ℤ) (start sums : Sums) (k bound : ℕ) → IsRowSum program box entries weight start k sums → k ≤ 32768 →
-    IsSmall bound start → IsSmall (bound + 2 ^ 105) sums
+    AreSumsWithin bound start → AreSumsWithin (bound + 2 ^ 105) sums
 row_small program box entries weight start sums k bound is few small = small-more (bound + k * 2 ^ 90) (bound + 2 ^ 105) sums (omega arith) (is.small bound small)
 
 pub row_whole : (program : Program) (box : List (Option Bool)) (row : ℕ) (entries : List (ℕ × ℤ)) (weight : ℤ) (start sums : Sums) (k : ℕ) → IsRowSum program box entries weight start k sums → length entries ≤ k →

@@ -10,7 +10,7 @@ use Rattle.merlin_model.proofs.Sums.{total-same, total-zero}
 use Rattle.integer_program.specs.Bounds.{IsBounded}
 use Rattle.integer_program.proofs.Bounds.{total-more}
 use Rattle.certificate.specs.declared.sums.Sums.{Sums}
-use Rattle.certificate.specs.Adding.{sum_at, IsSmall, least_sum, IsSum, clear_sums}
+use Rattle.certificate.specs.Adding.{sum_at, AreSumsWithin, least_sum, IsSum, clear_sums}
 
 abbrev pub no_weight : Weight
 no_weight = record { row = 0; weight = pos 0 }
@@ -20,10 +20,10 @@ pub record IsMoved (program : Program) (box : List (Option Bool)) (row : ℕ) (w
   pub size : length after.by_variable ≡ variables program
   pub each : (v : ℕ) → sum_at after v ≡ sum_at before v +ℤ (weight *ℤ coefficient_in v (row_at program row).entries)
   pub least : after.least ≡ least_sum program box after.by_variable
-  pub small : (bound : ℕ) → IsSmall bound before → IsSmall (bound + 2 ^ 105) after
+  pub small : (bound : ℕ) → AreSumsWithin bound before → AreSumsWithin (bound + 2 ^ 105) after
 
-more_steps : (n : ℕ) (sums : Sums) → IsSmall (n * 2 ^ 105 + 2 ^ 105) sums → IsSmall ((n + 1) * 2 ^ 105) sums
-more_steps n sums small = subst (λ b. IsSmall b sums) (let e : n * 2 ^ 105 + 2 ^ 105 ≡ (n + 1) * 2 ^ 105 = omega arith in e) small
+more_steps : (n : ℕ) (sums : Sums) → AreSumsWithin (n * 2 ^ 105 + 2 ^ 105) sums → AreSumsWithin ((n + 1) * 2 ^ 105) sums
+more_steps n sums small = subst (λ b. AreSumsWithin b sums) (let e : n * 2 ^ 105 + 2 ^ 105 ≡ (n + 1) * 2 ^ 105 = omega arith in e) small
 
 pub sum_more : (program : Program) (box : List (Option Bool)) (weights : List Weight) (k : ℕ) (before after : Sums) → k < length weights → IsSum program box (take k weights) k before →
     IsMoved program box (get_or weights k no_weight).row (get_or weights k no_weight).weight before after → IsSum program box (take (k + 1) weights) (k + 1) after

@@ -11,7 +11,7 @@ abbrev pub sum_at : Sums → ℕ → ℤ
 sum_at sums variable = slice_index_or sums.by_variable variable (pos 0)
 
 -- no number of it is past a bound
-pub record IsSmall (bound : ℕ) (sums : Sums) : Type 0 where
+pub record AreSumsWithin (bound : ℕ) (sums : Sums) : Type 0 where
   pub each : (variable : ℕ) → IsBounded bound (sum_at sums variable)
   pub least : IsBounded bound sums.least
 
@@ -25,7 +25,7 @@ pub record IsSum (program : Program) (box : List (Option Bool)) (weights : List 
   pub size : length sums.by_variable ≡ variables program
   pub each : (variable : ℕ) → sum_at sums variable ≡ weighted_coefficient program weights variable
   pub least : sums.least ≡ least_sum program box sums.by_variable
-  pub small : IsSmall (steps * 2 ^ 105) sums
+  pub small : AreSumsWithin (steps * 2 ^ 105) sums
 
 -- the sum of no rows over so many variables
 abbrev pub clear_sums : ℕ → Sums

@@ -5,7 +5,7 @@ ghost use Rattle.std.specs.List.{AllByRecursion};
 ghost use Rattle.std.specs.Option.{option_copied};
 ghost use Rattle.merlin_model.specs.Programs.{Takes, variables, is_chosen, row_at};
 ghost use Rattle.merlin_model.specs.Trees.{coefficient_in, least_addition};
-ghost use Rattle.certificate.specs.Adding.{sum_at, IsSmall, least_sum, IsSum, clear_sums, IsCleared, IsOnlyOf};
+ghost use Rattle.certificate.specs.Adding.{sum_at, AreSumsWithin, least_sum, IsSum, clear_sums, IsCleared, IsOnlyOf};
 ghost use Rattle.certificate.specs.Weights.{AreWeights};
 ghost use Rattle.integer_program.specs.Bounds.{IsBounded};
 
@@ -47,7 +47,7 @@ fn addition(place: Option<bool>, may_be_one: bool, coefficient: i128) -> i128
 // Adds an amount to the coefficient of a variable.
 fn add_entry(sums: &mut Sums, variable: usize, amount: i128, place: Option<bool>, may_be_one: bool)
     requires in_range { variable < length sums.old.by_variable }
-    requires small { IsSmall (2 ^ 125) sums.old }
+    requires small { AreSumsWithin (2 ^ 125) sums.old }
     requires amount { IsBounded (2 ^ 90) amount }
     ensures coefficient { let sum = sum_at sums.old variable +ℤ amount in
         sums.new.by_variable ≡ slice_set sums.old.by_variable variable sum }
@@ -77,14 +77,15 @@ fn add_row<P: Program>(
     requires sums { length sums.old.by_variable ≡ variables (P.instance program.now None) }
     requires least { let stated = P.instance program.now (option_copied cutoff) in
         sums.old.least ≡ least_sum stated fixed.now sums.old.by_variable }
-    requires small { IsSmall (2 ^ 124) sums.old }
+    requires small { AreSumsWithin (2 ^ 124) sums.old }
     ensures sums { length sums.new.by_variable ≡ variables (P.instance program.now None) }
     ensures each { let stated = P.instance program.now (option_copied cutoff.entry) in
         let entries = (row_at stated row).entries in
         (v : ℕ) → sum_at sums.new v ≡ sum_at sums.old v +ℤ (weight *ℤ coefficient_in v entries) }
     ensures least { let stated = P.instance program.now (option_copied cutoff.entry) in
         sums.new.least ≡ least_sum stated fixed.now sums.new.by_variable }
-    ensures small { (bound : ℕ) → IsSmall bound sums.old → IsSmall (bound + 2 ^ 105) sums.new }
+    ensures small { (bound : ℕ) → AreSumsWithin bound sums.old →
+        AreSumsWithin (bound + 2 ^ 105) sums.new }
 {
     for (variable, coefficient) in program.entries(row) {
         let amount = i128::from(weight) * i128::from(*coefficient);

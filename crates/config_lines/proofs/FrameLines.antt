@@ -11,15 +11,15 @@ use Rattle.config_text.specs.Lines.{name_at, functions_text}
 use Rattle.config_lines.specs.declared.processes.Frame.{Frame}
 use Rattle.config_lines.specs.Words.{IsLineFunction}
 use Rattle.config_lines.specs.Lines.{process_line, IsProcessLine}
-use Rattle.config_lines.specs.Frames.{frame_text, IsFrame, process_of}
+use Rattle.config_lines.specs.Frames.{frame_text, IsFrame, process_of_frame}
 use Rattle.config_lines.proofs.FunctionTexts.{functions_free}
 use Rattle.config_lines.proofs.ProcessParts.{parts, start, after_loc, after_tag, after_eth_dst}
 
-pub line_is : (net : Network) (f : Frame) (fs text rest : List ℕ) → text ≡ frame_text net f rest → f.names.now ≡ functions_text net.functions fs → text ≡ process_line net (process_of f fs) ++ rest
+pub line_is : (net : Network) (f : Frame) (fs text rest : List ℕ) → text ≡ frame_text net f rest → f.names.now ≡ functions_text net.functions fs → text ≡ process_line net (process_of_frame f fs) ++ rest
 line_is net f fs text rest e names =
-    e ∙ ap (λ t. codes "process " ++ (name_at net f.loc ++ 32 ∷ (decimal f.tag ++ 32 ∷ (mac_text f.eth_dst ++ 32 ∷ (t ++ 32 ∷ (decimal f.next_tag ++ 32 ∷ (decimal f.port ++ 32 ∷ (decimal f.queue ++ 10 ∷ rest)))))))) names ∙ sym (parts net (process_of f fs) rest)
+    e ∙ ap (λ t. codes "process " ++ (name_at net f.loc ++ 32 ∷ (decimal f.tag ++ 32 ∷ (mac_text f.eth_dst ++ 32 ∷ (t ++ 32 ∷ (decimal f.next_tag ++ 32 ∷ (decimal f.port ++ 32 ∷ (decimal f.queue ++ 10 ∷ rest)))))))) names ∙ sym (parts net (process_of_frame f fs) rest)
 
-pub is_line : (net : Network) (f : Frame) (fs : List ℕ) → IsFrame net f → AllByRecursion (IsLineFunction net) fs → IsProcessLine net (process_of f fs)
+pub is_line : (net : Network) (f : Frame) (fs : List ℕ) → IsFrame net f → AllByRecursion (IsLineFunction net) fs → IsProcessLine net (process_of_frame f fs)
 is_line net f fs is all = record {
   loc = is.loc;
   tag = is.tag;

@@ -15,7 +15,7 @@ use Rattle.config_lines.specs.declared.fields.Key.{Key}
 use Rattle.config_lines.specs.declared.fields.Key.TheVariants.{InPort, DlSrc, DlDst, DlVlan, DlType, NwProto, NwSrc, NwDst, TpSrc, TpDst}
 use Rattle.config_lines.specs.Words.{IsLimited, IsOptional}
 use Rattle.config_lines.specs.Parts.{IsLineVlan, IsLineMatch}
-use Rattle.config_lines.specs.Fields.{key_word, rank, vlan_number_text, value_text, IsValue, field_text, vlan_of, match_with}
+use Rattle.config_lines.specs.Fields.{key_word, key_rank, vlan_number_text, field_value_text, IsValue, field_text, vlan_of_tag, match_with}
 use Rattle.config_lines.proofs.Then.{short_free}
 use Rattle.config_lines.proofs.AddressTexts.{mac_free, ip_free}
 use Rattle.config_lines.proofs.Joined.{joined_free}
@@ -26,7 +26,7 @@ all_keys = InPort ∷ DlSrc ∷ DlDst ∷ DlVlan ∷ DlType ∷ NwProto ∷ NwSr
 pub key_at : ℕ → Key
 key_at r = get_or all_keys r TpDst
 
-pub key_of_rank : (key : Key) → key_at (rank key) ≡ key
+pub key_of_rank : (key : Key) → key_at (key_rank key) ≡ key
 unfolding all_keys key_at
 key_of_rank InPort = refl
 key_of_rank DlSrc = refl
@@ -39,7 +39,7 @@ key_of_rank NwDst = refl
 key_of_rank TpSrc = refl
 key_of_rank TpDst = refl
 
-pub rank_small : (key : Key) → rank key < 10
+pub rank_small : (key : Key) → key_rank key < 10
 rank_small InPort = omega arith
 rank_small DlSrc = omega arith
 rank_small DlDst = omega arith
@@ -65,7 +65,7 @@ rank_of_word word =
     cond (bytes_eq word (codes "tp_src")) 8 (
     9)))))))))
 
-rank_is : (key : Key) → rank_of_word (key_word key) ≡ rank key
+rank_is : (key : Key) → rank_of_word (key_word key) ≡ key_rank key
 unfolding rank_of_word
 rank_is InPort = refl
 rank_is DlSrc = refl
@@ -103,8 +103,8 @@ key_free_equals TpSrc = ((λ e. omega arith), ((λ e. omega arith), ((λ e. omeg
 key_free_equals TpDst = ((λ e. omega arith), ((λ e. omega arith), ((λ e. omega arith), ((λ e. omega arith), ((λ e. omega arith), ((λ e. omega arith), tt))))))
 
 -- a field tells its key
-pub same_rank : (k l : Key) (m n : ℕ) → field_text k m ≡ field_text l n → rank k ≡ rank l
-same_rank k l m n e = sym (rank_is k) ∙ ap rank_of_word (cut_once 61 (key_word k) (key_word l) (value_text k m) (value_text l n) (key_free_equals k) (key_free_equals l) e).front ∙ rank_is l
+pub same_rank : (k l : Key) (m n : ℕ) → field_text k m ≡ field_text l n → key_rank k ≡ key_rank l
+same_rank k l m n e = sym (rank_is k) ∙ ap rank_of_word (cut_once 61 (key_word k) (key_word l) (field_value_text k m) (field_value_text l n) (key_free_equals k) (key_free_equals l) e).front ∙ rank_is l
 
 tag_free : (byte n : ℕ) → byte < 45 → IsLimited 0 4094 n → Free byte (vlan_number_text n)
 tag_free byte n low is = by (n == 0)
@@ -113,7 +113,7 @@ tag_free byte n low is = by (n == 0)
     by true = ((λ e. omega arith), ((λ e. omega arith), ((λ e. omega arith), ((λ e. omega arith), tt))))
     by false = short_free byte 0 4094 n (omega arith) (omega arith) is
 
-value_free : (byte : ℕ) (key : Key) (n : ℕ) → byte < 45 → IsValue key n → Free byte (value_text key n)
+value_free : (byte : ℕ) (key : Key) (n : ℕ) → byte < 45 → IsValue key n → Free byte (field_value_text key n)
 value_free byte InPort n low is = short_free byte 1 65279 n (omega arith) (omega arith) is
 value_free byte DlSrc n low is = mac_free byte n (omega arith)
 value_free byte DlDst n low is = mac_free byte n (omega arith)
@@ -126,7 +126,7 @@ value_free byte TpSrc n low is = short_free byte 0 65535 n (omega arith) (omega 
 value_free byte TpDst n low is = short_free byte 0 65535 n (omega arith) (omega arith) (record { low = omega arith; high = is })
 
 pub field_free : (byte : ℕ) (key : Key) (n : ℕ) → byte < 45 → IsValue key n → Free byte (field_text key n)
-field_free byte key n low is = free_append byte (key_word key) (61 ∷ value_text key n) (key_free byte key low) ((λ e. omega arith), value_free byte key n low is)
+field_free byte key n low is = free_append byte (key_word key) (61 ∷ field_value_text key n) (key_free byte key low) ((λ e. omega arith), value_free byte key n low is)
 
 -- The numbers of a match, one for each key, and the list of those that are there.
 
@@ -312,7 +312,7 @@ set_fields r (suc k) n (Some v ∷ os) h small =
     let same : r + suc k ≡ r + 1 + k = omega arith in
     ap (λ ps. (r, v) ∷ ps) (set_fields (r + 1) k n os (omega arith) (subst (λ b. AllByRecursion (λ p. p.0 < b) (fields_from (r + 1) os)) same small.1) ∙ ap (λ b. fields_from (r + 1) os ++ (b, n) ∷ []) (sym same))
 
-number_of_vlan : (n : ℕ) → vlan_number (vlan_of n) ≡ n
+number_of_vlan : (n : ℕ) → vlan_number (vlan_of_tag n) ≡ n
 unfolding vlan_number
 number_of_vlan n = by (n == 0) refl
   where
@@ -320,7 +320,7 @@ number_of_vlan n = by (n == 0) refl
     by true e = (let z : n ≡ 0 = grind arith in sym z)
     by false e = refl
 
-values_with : (m : Match) (key : Key) (n : ℕ) → IsValue key n → values (match_with m key n) ≡ set_at (values m) (rank key) n
+values_with : (m : Match) (key : Key) (n : ℕ) → IsValue key n → values (match_with m key n) ≡ set_at (values m) (key_rank key) n
 unfolding values set_at type_number
 values_with m InPort n is = refl
 values_with m DlSrc n is = refl
@@ -334,15 +334,15 @@ values_with m TpSrc n is = refl
 values_with m TpDst n is = refl
 
 -- one field more
-pub field_pushed : (m : Match) (key : Key) (n : ℕ) → IsValue key n → end_of 0 (fields_of m) ≤ rank key → fields_of (match_with m key n) ≡ fields_of m ++ (rank key, n) ∷ []
+pub field_pushed : (m : Match) (key : Key) (n : ℕ) → IsValue key n → end_of 0 (fields_of m) ≤ key_rank key → fields_of (match_with m key n) ≡ fields_of m ++ (key_rank key, n) ∷ []
 unfolding fields_of values
 field_pushed m key n is low =
-    ap (fields_from 0) (values_with m key n is) ∙ set_fields 0 (rank key) n (values m) (ten key) (all_below 0 (0 + rank key) (fields_of m) (fields_ascend 0 (values m)) (omega arith)) ∙ ap (λ k. fields_from 0 (values m) ++ (k, n) ∷ []) (let z : 0 + rank key ≡ rank key = omega arith in z)
+    ap (fields_from 0) (values_with m key n is) ∙ set_fields 0 (key_rank key) n (values m) (ten key) (all_below 0 (0 + key_rank key) (fields_of m) (fields_ascend 0 (values m)) (omega arith)) ∙ ap (λ k. fields_from 0 (values m) ++ (k, n) ∷ []) (let z : 0 + key_rank key ≡ key_rank key = omega arith in z)
   where
-    ten : (k : Key) → rank k < length (values m)
+    ten : (k : Key) → key_rank k < length (values m)
     ten k = rank_small k
 
-lawful_vlan : (n : ℕ) → IsLimited 0 4094 n → IsLineVlan (vlan_of n)
+lawful_vlan : (n : ℕ) → IsLimited 0 4094 n → IsLineVlan (vlan_of_tag n)
 lawful_vlan n is = by (n == 0) refl
   where
     by : (b : Bool) → (n == 0) ≡ b → IsLineVlan (cond b Untagged (Tag n))
@@ -361,7 +361,7 @@ match_kept m NwDst n is v = record { in_port = is.in_port; dl_src = is.dl_src; d
 match_kept m TpSrc n is v = record { in_port = is.in_port; dl_src = is.dl_src; dl_dst = is.dl_dst; dl_vlan = is.dl_vlan; nw_proto = is.nw_proto; nw_src = is.nw_src; nw_dst = is.nw_dst; tp_src = v; tp_dst = is.tp_dst }
 match_kept m TpDst n is v = record { in_port = is.in_port; dl_src = is.dl_src; dl_dst = is.dl_dst; dl_vlan = is.dl_vlan; nw_proto = is.nw_proto; nw_src = is.nw_src; nw_dst = is.nw_dst; tp_src = is.tp_src; tp_dst = v }
 
-pub rank_at : (k : ℕ) → k < 10 → rank (key_at k) ≡ k
+pub rank_at : (k : ℕ) → k < 10 → key_rank (key_at k) ≡ k
 unfolding key_at all_keys
 rank_at zero h = refl
 rank_at (suc zero) h = refl
@@ -384,7 +384,7 @@ end_same r (p ∷ ps) [] f g e = absurd (let no_way : text_of p ∷ map text_of 
 end_same r (p ∷ ps) (q ∷ qs) f g e =
     let first : text_of p ≡ text_of q = cc in
     let later : map text_of ps ≡ map text_of qs = cc in
-    let ranks : rank (key_at p.0) ≡ rank (key_at q.0) = same_rank (key_at p.0) (key_at q.0) p.1 q.1 first in
+    let ranks : key_rank (key_at p.0) ≡ key_rank (key_at q.0) = same_rank (key_at p.0) (key_at q.0) p.1 q.1 first in
     let same : p.0 ≡ q.0 = sym (rank_at p.0 f.0.0) ∙ ranks ∙ rank_at q.0 g.0.0 in
     end_same (p.0 + 1) ps qs f.1 g.1 later ∙ ap (λ k. end_of (k + 1) qs) same
 
@@ -403,7 +403,7 @@ pub all_ascend : (m : Match) → Ascend 0 (fields_of m)
 unfolding fields_of
 all_ascend m = fields_ascend 0 (values m)
 
-pub text_is : (key : Key) (n : ℕ) → text_of (rank key, n) ≡ field_text key n
+pub text_is : (key : Key) (n : ℕ) → text_of (key_rank key, n) ≡ field_text key n
 unfolding text_of
 text_is key n = ap (λ k. field_text k n) (key_of_rank key)
 

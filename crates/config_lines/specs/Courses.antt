@@ -16,11 +16,11 @@ IsAction StripVlan = Unit {0}
 IsAction (Output out) = IsLineOut out
 IsAction (Enqueue out queue) = IsLineOut out × IsQueue queue
 
-abbrev pub actions_of : Course → List Action
-actions_of Drop = []
-actions_of (Send send) = send ∷ []
-actions_of (ChangeAndSend change send) = change ∷ send ∷ []
+abbrev pub course_actions : Course → List Action
+course_actions Drop = []
+course_actions (Send send) = send ∷ []
+course_actions (ChangeAndSend change send) = change ∷ send ∷ []
 
 abbrev pub rule_of : PlainRule → Rule
 rule_of plain =
-    record { loc = plain.loc; priority = plain.priority; fits = plain.fits; actions = actions_of plain.course }
+    record { loc = plain.loc; priority = plain.priority; fits = plain.fits; actions = course_actions plain.course }

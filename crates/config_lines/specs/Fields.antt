@@ -24,32 +24,32 @@ key_word TpSrc = codes "tp_src"
 key_word TpDst = codes "tp_dst"
 
 -- the place of a field among all
-abbrev pub rank : Key → ℕ
-rank InPort = 0
-rank DlSrc = 1
-rank DlDst = 2
-rank DlVlan = 3
-rank DlType = 4
-rank NwProto = 5
-rank NwSrc = 6
-rank NwDst = 7
-rank TpSrc = 8
-rank TpDst = 9
+abbrev pub key_rank : Key → ℕ
+key_rank InPort = 0
+key_rank DlSrc = 1
+key_rank DlDst = 2
+key_rank DlVlan = 3
+key_rank DlType = 4
+key_rank NwProto = 5
+key_rank NwSrc = 6
+key_rank NwDst = 7
+key_rank TpSrc = 8
+key_rank TpDst = 9
 
 abbrev pub vlan_number_text : ℕ → List ℕ
 vlan_number_text n = if n == 0 then codes "none" else decimal n
 
-abbrev pub value_text : Key → ℕ → List ℕ
-value_text InPort n = decimal n
-value_text DlSrc n = mac_text n
-value_text DlDst n = mac_text n
-value_text DlVlan n = vlan_number_text n
-value_text DlType n = codes "0x0800"
-value_text NwProto n = decimal n
-value_text NwSrc n = ip_text n
-value_text NwDst n = ip_text n
-value_text TpSrc n = decimal n
-value_text TpDst n = decimal n
+abbrev pub field_value_text : Key → ℕ → List ℕ
+field_value_text InPort n = decimal n
+field_value_text DlSrc n = mac_text n
+field_value_text DlDst n = mac_text n
+field_value_text DlVlan n = vlan_number_text n
+field_value_text DlType n = codes "0x0800"
+field_value_text NwProto n = decimal n
+field_value_text NwSrc n = ip_text n
+field_value_text NwDst n = ip_text n
+field_value_text TpSrc n = decimal n
+field_value_text TpDst n = decimal n
 
 abbrev pub IsValue : Key → ℕ → Type 0
 IsValue InPort n = IsPortNumber n
@@ -65,17 +65,17 @@ IsValue TpDst n = HasTwoBytes n
 
 -- a key and its number
 abbrev pub field_text : Key → ℕ → List ℕ
-field_text key n = key_word key ++ 61 ∷ value_text key n
+field_text key n = key_word key ++ 61 ∷ field_value_text key n
 
-abbrev pub vlan_of : ℕ → Vlan
-vlan_of n = if n == 0 then Untagged else Tag n
+abbrev pub vlan_of_tag : ℕ → Vlan
+vlan_of_tag n = if n == 0 then Untagged else Tag n
 
 -- the match with one field set
 abbrev pub match_with : Match → Key → ℕ → Match
 match_with m InPort n = record m { in_port = Some n }
 match_with m DlSrc n = record m { dl_src = Some n }
 match_with m DlDst n = record m { dl_dst = Some n }
-match_with m DlVlan n = record m { dl_vlan = Some (vlan_of n) }
+match_with m DlVlan n = record m { dl_vlan = Some (vlan_of_tag n) }
 match_with m DlType n = record m { dl_type = true }
 match_with m NwProto n = record m { nw_proto = Some n }
 match_with m NwSrc n = record m { nw_src = Some n }

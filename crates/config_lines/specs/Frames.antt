@@ -27,8 +27,8 @@ pub record IsFrame (net : Network) (f : Frame) : Type 0 where
   pub queue : IsLimited 0 MAX_QUEUE f.queue
 
 -- the line with functions in place of the word
-abbrev pub process_of : Frame → List ℕ → Process
-process_of f functions = record {
+abbrev pub process_of_frame : Frame → List ℕ → Process
+process_of_frame f functions = record {
   loc = f.loc;
   tag = f.tag;
   eth_dst = f.eth_dst;

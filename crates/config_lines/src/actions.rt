@@ -7,7 +7,7 @@ ghost use Rattle.merlin_model.specs.declared.config.Action.{Action as Stated};
 ghost use Rattle.config_text.specs.Lines.{out_text, action_text, actions_text};
 ghost use Rattle.config_lines.specs.Words.{IsQueue};
 ghost use Rattle.config_lines.specs.Parts.{IsLineOut, IsTagging, IsSending, AreLineActions};
-ghost use Rattle.config_lines.specs.Courses.{IsAction, actions_of};
+ghost use Rattle.config_lines.specs.Courses.{IsAction, course_actions};
 
 use crate::limits::{MAX_QUEUE, MAX_TAG};
 use crate::words::{GREATEST_PORT, read_short};
@@ -87,7 +87,8 @@ fn is_sending(action: Action) -> bool
 // What the word makes a rule do.
 fn read_course(word: &[u8]) -> Option<Course>
     ensures some { IfSome result (λ course.
-        (word.now ≡ actions_text (actions_of course)) × AreLineActions (actions_of course)) }
+        (word.now ≡ actions_text (course_actions course))
+        × AreLineActions (course_actions course)) }
     ensures none { IfNone result ((actions : List Stated) → AreLineActions actions →
         word.now ≡ actions_text actions → ⊥) }
 {
@@ -116,8 +117,9 @@ fn read_course(word: &[u8]) -> Option<Course>
 
 /// What a rule does by the end of its line, and what stands behind the line.
 pub(crate) fn course_then(text: &[u8]) -> Option<(Course, &[u8])>
-    ensures some { IfSome result (λ r. (text.now ≡ actions_text (actions_of r.0) ++ 10 ∷ r.1.now)
-        × AreLineActions (actions_of r.0)) }
+    ensures some { IfSome result (λ r.
+        (text.now ≡ actions_text (course_actions r.0) ++ 10 ∷ r.1.now)
+        × AreLineActions (course_actions r.0)) }
     ensures none { IfNone result ((actions : List Stated) (rest : List ℕ) →
         AreLineActions actions →
         text.now ≡ actions_text actions ++ 10 ∷ rest → ⊥) }

@@ -8,7 +8,7 @@ ghost use Rattle.config_text.specs.Lines.{match_text};
 ghost use Rattle.config_lines.specs.declared.fields.Key.{Key as Name};
 ghost use Rattle.config_lines.specs.Words.{IsLimited};
 ghost use Rattle.config_lines.specs.Parts.{IsLineMatch, IsIpNumber};
-ghost use Rattle.config_lines.specs.Fields.{key_word, rank, vlan_number_text, value_text, IsValue, field_text, vlan_of, match_with};
+ghost use Rattle.config_lines.specs.Fields.{key_word, key_rank, vlan_number_text, field_value_text, IsValue, field_text, vlan_of_tag, match_with};
 
 use crate::addresses::{read_ip, read_mac};
 use crate::limits::MAX_TAG;
@@ -70,7 +70,7 @@ fn read_key(text: &[u8]) -> Option<(Key, &[u8])>
 
 // The place of a field among all.
 fn rank(key: Key) -> usize
-    ensures { result ≡ rank key }
+    ensures { result ≡ key_rank key }
 {
     match key {
         Key::InPort => 0,
@@ -133,9 +133,9 @@ fn read_type(word: &[u8]) -> Option<u64>
 
 // The number of this field that the word is.
 fn read_value(key: Key, word: &[u8]) -> Option<u64>
-    ensures some { IfSome result (λ n. (word.now ≡ value_text key n) × IsValue key n) }
+    ensures some { IfSome result (λ n. (word.now ≡ field_value_text key n) × IsValue key n) }
     ensures none { IfNone result ((n : ℕ) → IsValue key n →
-        word.now ≡ value_text key n → ⊥) }
+        word.now ≡ field_value_text key n → ⊥) }
 {
     match key {
         Key::InPort => read_up_to(word, 1, GREATEST_PORT),
@@ -153,7 +153,7 @@ fn read_value(key: Key, word: &[u8]) -> Option<u64>
 
 // The tag of this number, or that there is none for 0.
 fn vlan_of(number: u16) -> Vlan
-    ensures { result ≡ vlan_of number }
+    ensures { result ≡ vlan_of_tag number }
 {
     if number == 0 {
         Vlan::Untagged

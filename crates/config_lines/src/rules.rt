@@ -3,7 +3,7 @@
 ghost use Rattle.std.specs.Prelude.{◌≡◌, ◌++◌, List, ℕ, IfOk, IfSome, IfNone};
 ghost use Rattle.merlin_model.specs.declared.config.Rule.{Rule as Stated};
 ghost use Rattle.config_lines.specs.Lines.{rule_line, IsRuleLine};
-ghost use Rattle.config_lines.specs.Courses.{actions_of as listed, rule_of};
+ghost use Rattle.config_lines.specs.Courses.{course_actions, rule_of};
 
 use crate::actions::{Course, course_then};
 use crate::fields::match_then;
@@ -46,7 +46,7 @@ fn read_plain_rule<'a>(net: &Topology, text: &'a [u8]) -> Option<(PlainRule, &'a
 
 // The actions of a rule, in memory.
 fn actions_of(alloc: Global, course: Course) -> Result<Actions, OutOfMemory>
-    ensures { IfOk result (λ actions. actions ≡ listed course) }
+    ensures { IfOk result (λ actions. actions ≡ course_actions course) }
 {
     match course {
         Course::Drop => Actions::from_slice(alloc, &[]),

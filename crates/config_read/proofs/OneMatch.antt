@@ -14,7 +14,7 @@ use Rattle.config_lines.specs.declared.fields.Key.{Key}
 use Rattle.config_lines.specs.declared.fields.Key.TheVariants.{InPort, DlSrc, DlDst, DlVlan, DlType, NwProto, NwSrc, NwDst, TpSrc, TpDst}
 use Rattle.config_lines.specs.Words.{IsLimited, IsOptional}
 use Rattle.config_lines.specs.Parts.{IsLineVlan, IsLineMatch}
-use Rattle.config_lines.specs.Fields.{key_word, rank, vlan_number_text, value_text, IsValue, field_text}
+use Rattle.config_lines.specs.Fields.{key_word, key_rank, vlan_number_text, field_value_text, IsValue, field_text}
 use Rattle.config_lines.proofs.MatchTexts.{key_at, same_rank, text_free, vlan_number, type_number, values, fields_from, fields_of, fields_are, fields_lawful, fields_ascend, text_of, IsField, Ascend, end_of, end_none, next_rank, rank_at, text_at, lawful_at}
 use Rattle.config_read.proofs.OneWords.{short_same, double_same, mac_same, ip_same, no_letter, commas_once, IsPart, is_part}
 
@@ -29,7 +29,7 @@ vlan_text_same m n f g e = by (m == 0) refl (n == 0) refl e
     by false h true k e = absurd (no_letter m (111 ∷ 110 ∷ 101 ∷ []) 110 (let t = f.high in omega arith) (omega arith) e)
     by false h false k e = short_same 0 4094 m n (omega arith) f g e
 
-value_same : (key : Key) (m n : ℕ) → IsValue key m → IsValue key n → value_text key m ≡ value_text key n → m ≡ n
+value_same : (key : Key) (m n : ℕ) → IsValue key m → IsValue key n → field_value_text key m ≡ field_value_text key n → m ≡ n
 value_same InPort m n f g e = short_same 1 65279 m n (omega arith) f g e
 value_same DlSrc m n f g e = mac_same m n f g e
 value_same DlDst m n f g e = mac_same m n f g e
@@ -45,7 +45,7 @@ behind_equals : (x y : List ℕ) → 61 ∷ x ≡ 61 ∷ y → x ≡ y
 behind_equals x y e = cc
 
 number_same : (key : Key) (m n : ℕ) → IsValue key m → IsValue key n → field_text key m ≡ field_text key n → m ≡ n
-number_same key m n f g e = value_same key m n f g (behind_equals (value_text key m) (value_text key n) (append_cancel_left (key_word key) (61 ∷ value_text key m) (61 ∷ value_text key n) e))
+number_same key m n f g e = value_same key m n f g (behind_equals (field_value_text key m) (field_value_text key n) (append_cancel_left (key_word key) (61 ∷ field_value_text key m) (61 ∷ field_value_text key n) e))
 
 field_same : (p q : ℕ × ℕ) → IsField p → IsField q → text_of p ≡ text_of q → p ≡ q
 field_same p q f g e =
@@ -145,7 +145,7 @@ fields_are_parts : (ps : List (ℕ × ℕ)) → AllByRecursion IsField ps → Al
 fields_are_parts [] all = tt
 fields_are_parts (p ∷ ps) all = (
   is_part (codes "any") (text_of p) (text_free 44 p (omega arith) all.0)
-      (λ e. free_middle 61 (key_word (key_at p.0)) (value_text (key_at p.0) p.1) (subst (Free 61) (sym e ∙ text_at p) any_lacks)),
+      (λ e. free_middle 61 (key_word (key_at p.0)) (field_value_text (key_at p.0) p.1) (subst (Free 61) (sym e ∙ text_at p) any_lacks)),
   fields_are_parts ps all.1,
 )
 

@@ -7,7 +7,7 @@ use Rattle.rules_model.proofs.Trees.{tree-way, tree-unique}
 use Rattle.product_graph.specs.declared.span.Product.{Product}
 use Rattle.product_graph.specs.declared.span.Span2.{Span2}
 use Rattle.product_graph.specs.declared.span.Span2.TheVariants.{Pair, All}
-use Rattle.product_graph.specs.Products.{StandsIn, IsCut, IsTrimmed, vertices_of}
+use Rattle.product_graph.specs.Products.{StandsIn, IsEmptyOverSpan, IsTrimmed, vertices_of}
 use Rattle.product_graph.proofs.Standing.{get-in, in-get, in-stands, stands-at, not-end}
 use Rattle.sink_tree.specs.Trees.{NextLeads, IsSinkTree}
 
@@ -35,7 +35,7 @@ module _ (net : Network) (a : SymbolAutomaton) where
 
 module _ (net : Network) (a : SymbolAutomaton) (d : ℕ) (dest : IsHost net d) (product : Product) where
   -- an empty product has nothing that follows
-  pub cut-follows : IsCut net a (All d) product → (v : Vertex) (us : List Vertex) → ¬ TreeFollows net a d v us
+  pub cut-follows : IsEmptyOverSpan net a (All d) product → (v : Vertex) (us : List Vertex) → ¬ TreeFollows net a d v us
   cut-follows cut v us f = let way = leads-way net a d (start_of a f.source) f.path v us f.reached (tree-way net a d v us f.tree) in cut.none f.source way.0 (f.host, f.other) way.1
 
   module _ (is : IsTrimmed net a (All d) product) (next : ℕ → Option ℕ) (tree : IsSinkTree net a d product next) where

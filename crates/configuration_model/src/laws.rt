@@ -14,7 +14,7 @@ ghost use Rattle.rules_model.specs.Promise.{IsCompiled};
 ghost use Rattle.rules_model.specs.Products.{SymbolAutomaton, Vertex, WrittenWalk, IsVertexIn, TreeFollows};
 ghost use Rattle.product_graph.specs.declared.span.Product.{Product};
 ghost use Rattle.product_graph.specs.declared.span.Span2.TheVariants.{Pair, All};
-ghost use Rattle.product_graph.specs.Products.{IsCut, IsTrimmed};
+ghost use Rattle.product_graph.specs.Products.{IsEmptyOverSpan, IsTrimmed};
 ghost use Rattle.sink_tree.specs.Trees.{NextLeads, IsSinkTree};
 ghost use Rattle.predicate_split.specs.declared.pair_cells.Cell.{Cell as HostCell};
 ghost use Rattle.predicate_split.specs.Cells.{cell_matches};
@@ -65,7 +65,7 @@ pub fn sink_tree_is_followed()
         TreeFollows net a d v us →
         (k : ℕ) × (slice_get (is.first ++ is.inner) k ≡ Some v) × NextLeads product next k us }
     ensures empty { (net : Network) (a : SymbolAutomaton) (d : ℕ) (product : Product) →
-        IsHost net d → IsCut net a (All d) product → (v : Vertex) (us : List Vertex) →
+        IsHost net d → IsEmptyOverSpan net a (All d) product → (v : Vertex) (us : List Vertex) →
         ¬ TreeFollows net a d v us }
 {}
 

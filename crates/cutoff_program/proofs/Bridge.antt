@@ -20,7 +20,7 @@ use Rattle.rules_model.proofs.Ways.{way-goes_on, way-accepts}
 use Rattle.cutoff_program.specs.Flows.{Flow, Problem, Variable, variables_of, last_of, program_at, cutoff_of, takes, is_below}
 use Rattle.cutoff_program.specs.Limits.{IsProblem}
 use Rattle.cutoff_program.specs.Trails.{IsTrailOf, IsPath, ArePathsFrom, AreTrailsFrom, edges_of, point_with, value_along}
-use Rattle.cutoff_program.specs.Products.{Product, IsEmptyProduct, IsTrimmed, IsProduct, edge_of, flow_of}
+use Rattle.cutoff_program.specs.Products.{Product, IsEmptyProduct, IsTrimmedProduct, IsProductOfHosts, edge_of, flow_of}
 use Rattle.cutoff_program.specs.Walks.{IsFlowOf, IsProblemOf, IsSimple, HasPoint, HasWalks, HasTrailFor, HasWalkFor}
 use Rattle.cutoff_program.proofs.Lists.{all_so, some_some}
 use Rattle.cutoff_program.proofs.Places.{get-in}
@@ -32,7 +32,7 @@ use Rattle.cutoff_program.proofs.Loads.{CrossAlike, value-same, feasible-fits, f
 
 -- The end of a product that isn't empty is its last vertex.
 
-pub last-of : (net : Network) (a : SymbolAutomaton) (s d rate : ℕ) (product : Product) → (t : IsTrimmed net a s d product) → last_of (flow_of net rate product) ≡ length (start_of a s ∷ t.inner)
+pub last-of : (net : Network) (a : SymbolAutomaton) (s d rate : ℕ) (product : Product) → (t : IsTrimmedProduct net a s d product) → last_of (flow_of net rate product) ≡ length (start_of a s ∷ t.inner)
 last-of net a s d rate product t =
     ap (λ vs. max (length vs) 2 - 1) t.vertices
     ∙ (let e = length-append t.inner (record { symbol = at d; state = t.state } ∷ []) in count (length t.inner) _ e)
@@ -59,7 +59,7 @@ module _ (net : Network) (policy : Policy) (automata : ℕ → SymbolAutomaton) 
       find : (rest : List Symbol) → GoesOn net ends.dst (at ends.src) rest → a.accepts (ending_state a (a.step 0 (at ends.src)) rest) ≡ true → HasTrailFor net policy variables n flow ends (at ends.src ∷ rest)
       find rest goes accepts = by of.is_product
         where
-          by : IsProduct net a ends.src ends.dst of.product → HasTrailFor net policy variables n flow ends (at ends.src ∷ rest)
+          by : IsProductOfHosts net a ends.src ends.dst of.product → HasTrailFor net policy variables n flow ends (at ends.src ∷ rest)
           by (inl cut) = let w = word-way net a ends.dst (start_of a ends.src) rest goes accepts in absurd (cut.none w.way w.leads)
           by (inr trimmed) =
               let w = word-way net a ends.dst (start_of a ends.src) rest goes accepts in
@@ -105,7 +105,7 @@ module _ (net : Network) (policy : Policy) (automata : ℕ → SymbolAutomaton) 
           let e : flow.edges ≡ [] = ap (λ f. f.edges) of.is ∙ ap (map (edge_of net of.product.vertices)) cut.edges in
           subst (In t.0.edge) e o.0
 
-      found : (trimmed : IsTrimmed net a ends.src ends.dst of.product) → HasWalkFor net policy automata variables ends of.product.vertices path
+      found : (trimmed : IsTrimmedProduct net a ends.src ends.dst of.product) → HasWalkFor net policy automata variables ends of.product.vertices path
       found trimmed =
           let laid : IsLaid net a ends.src ends.dst rate n variables of.product = record { network = network; start = of.hosts.src; trimmed = trimmed; flow = subst (IsFlowAt variables n) of.is at_flow } in
           let steps = subst (λ k. IsTrailOf variables n path 0 k) (ap last_of of.is ∙ last-of net a ends.src ends.dst rate of.product trimmed) is_path.steps in
@@ -130,7 +130,7 @@ module _ (net : Network) (policy : Policy) (automata : ℕ → SymbolAutomaton) 
             spelled = λ l directed e. f.crossed l directed e;
           }
 
-      by : IsProduct net a ends.src ends.dst of.product → HasWalkFor net policy automata variables ends of.product.vertices path
+      by : IsProductOfHosts net a ends.src ends.dst of.product → HasWalkFor net policy automata variables ends of.product.vertices path
       by (inl cut) = absurd (none cut path is_path.steps)
       by (inr trimmed) = found trimmed
 

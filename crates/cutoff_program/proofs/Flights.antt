@@ -7,10 +7,10 @@ use Rattle.merlin_model.specs.declared.policy.Symbol.{Symbol}
 use Rattle.merlin_model.specs.Networks.{Network, IsNetwork, directed_links, IsHost, Pairwise, AreDifferent}
 use Rattle.merlin_model.specs.Words.{at, crosses, crossings}
 use Rattle.merlin_model.proofs.Members.{In, in_from, in_to, all_in, in_append, in_append-left, in_append-right, in_map, map_in}
-use Rattle.rules_model.specs.Products.{SymbolAutomaton, Vertex, loc_of, start_of, IsEdge, IsLast, LeadsToEnd, IsOnWayBetween, word_to}
+use Rattle.rules_model.specs.Products.{SymbolAutomaton, Vertex, loc_of, start_of, IsEdge, IsLast, LeadsToEnd, IsOnWayBetween, word_to, IsBefore, IsJoined}
 use Rattle.cutoff_program.specs.Flows.{FlowEdge, Flow, Variable, variable_of, variables_from, rate_over, is_on}
 use Rattle.cutoff_program.specs.Trails.{IsTrailOf, sum_along, comes_to}
-use Rattle.cutoff_program.specs.Products.{Product, IsBefore, IsJoined, IsTrimmed, place_between, loc_at, edge_of, flow_of}
+use Rattle.cutoff_program.specs.Products.{Product, IsTrimmedProduct, place_between, loc_at, edge_of, flow_of}
 use Rattle.cutoff_program.specs.Walks.{symbol_of_vertex, word_along}
 use Rattle.cutoff_program.proofs.Lists.{none_some, some_some, within_length}
 use Rattle.cutoff_program.proofs.Following.{sum-cons}
@@ -83,7 +83,7 @@ product_or false rate = omega arith
 pub record IsLaid (net : Network) (a : SymbolAutomaton) (s d rate n : ℕ) (variables : List Variable) (product : Product) : Type 0 where
   pub network : IsNetwork net
   pub start : IsHost net s
-  pub trimmed : IsTrimmed net a s d product
+  pub trimmed : IsTrimmedProduct net a s d product
   pub flow : IsFlowAt variables n (flow_of net rate product)
 
 module _ (net : Network) (a : SymbolAutomaton) (s d rate n : ℕ) (variables : List Variable) (product : Product) (laid : IsLaid net a s d rate n variables product) where

@@ -9,10 +9,10 @@ use Rattle.merlin_model.specs.Networks.{Network, IsNetwork, JoinsLocations, dire
 use Rattle.merlin_model.specs.Policies.{Policy}
 use Rattle.merlin_model.specs.Rates.{min_of}
 use Rattle.merlin_model.proofs.Members.{in_to}
-use Rattle.rules_model.specs.Products.{SymbolAutomaton, Vertex, start_of, IsEdge, IsLast}
+use Rattle.rules_model.specs.Products.{SymbolAutomaton, Vertex, start_of, IsEdge, IsLast, IsJoined}
 use Rattle.cutoff_program.specs.Flows.{FlowEdge, Flow, Problem, last_of, variables_of, cost_of_variable}
 use Rattle.cutoff_program.specs.Limits.{IsEdgeOf, IsFlow, IsLinkWithin, IsProblem}
-use Rattle.cutoff_program.specs.Products.{Product, IsTrimmed, IsProduct, IsJoined, place_between, loc_at, edge_of, flow_of}
+use Rattle.cutoff_program.specs.Products.{Product, IsTrimmedProduct, IsProductOfHosts, place_between, loc_at, edge_of, flow_of}
 use Rattle.cutoff_program.specs.Walks.{IsFlowOf, IsProblemOf, KeepsPolicyLimits}
 use Rattle.cutoff_program.proofs.Lists.{all_map, some_some, within_length}
 use Rattle.cutoff_program.proofs.Places.{place-of}
@@ -27,7 +27,7 @@ crosses-in net u v = by (place_between net u v) refl
     by None e = tt
     by (Some l) e = let p = place-of net u v l e in within_length (directed_links net) l p.0 p.1
 
-edge-is : (net : Network) (a : SymbolAutomaton) (s d rate : ℕ) (product : Product) → (t : IsTrimmed net a s d product) → (e : ℕ × ℕ) → IsJoined net a d (start_of a s ∷ t.inner) e → IsEdgeOf (directed_links net) (last_of (flow_of net rate product)) (edge_of net product.vertices e)
+edge-is : (net : Network) (a : SymbolAutomaton) (s d rate : ℕ) (product : Product) → (t : IsTrimmedProduct net a s d product) → (e : ℕ × ℕ) → IsJoined net a d (start_of a s ∷ t.inner) e → IsEdgeOf (directed_links net) (last_of (flow_of net rate product)) (edge_of net product.vertices e)
 edge-is net a s d rate product t e j = by j.2
   where
     last : last_of (flow_of net rate product) ≡ length (start_of a s ∷ t.inner)
@@ -62,13 +62,13 @@ edge-is net a s d rate product t e j = by j.2
         apart : (x y z : ℕ) → x < y → z ≡ y → x ≡ z → ⊥
         apart x y z h f g = let bad : ⊥ = omega arith in bad
 
-pub product-flow : (net : Network) (a : SymbolAutomaton) (s d rate : ℕ) (product : Product) → rate ≤ 10 ^ 9 → IsProduct net a s d product → IsFlow (directed_links net) (flow_of net rate product)
+pub product-flow : (net : Network) (a : SymbolAutomaton) (s d rate : ℕ) (product : Product) → rate ≤ 10 ^ 9 → IsProductOfHosts net a s d product → IsFlow (directed_links net) (flow_of net rate product)
 product-flow net a s d rate product small is = record { rate = small; edges = by is }
   where
     IsIn : FlowEdge → Type 0
     IsIn = IsEdgeOf (directed_links net) (last_of (flow_of net rate product))
 
-    by : IsProduct net a s d product → AllByRecursion IsIn (map (edge_of net product.vertices) product.edges)
+    by : IsProductOfHosts net a s d product → AllByRecursion IsIn (map (edge_of net product.vertices) product.edges)
     by (inl cut) = subst (λ es. AllByRecursion IsIn (map (edge_of net product.vertices) es)) (sym cut.edges) tt
     by (inr t) = all_map IsIn (edge_of net product.vertices) product.edges
         (all-from (λ e. IsIn (edge_of net product.vertices e)) product.edges

@@ -7,8 +7,8 @@ use Rattle.merlin_model.specs.Networks.{IsHost, AreLinked, directed_links}
 use Rattle.merlin_model.specs.Words.{at, IsSymbol, MayFollow}
 use Rattle.merlin_model.proofs.Fitting.{and-both}
 use Rattle.merlin_model.proofs.Members.{In, in_from, in_to}
-use Rattle.rules_model.specs.Products.{Vertex, loc_of, IsEdge, IsLast, LeadsTo, IsOnWayBetween}
-use Rattle.cutoff_program.specs.Products.{IsJoined, IsTrimmed}
+use Rattle.rules_model.specs.Products.{Vertex, loc_of, IsEdge, IsLast, LeadsTo, IsOnWayBetween, IsJoined}
+use Rattle.cutoff_program.specs.Products.{IsTrimmedProduct}
 use Rattle.cutoff_program.specs.Rows.{triangle_net, any_automaton, triangle_product, vertex}
 use Rattle.cutoff_program.proofs.Lists.{none_some, some_some}
 use Rattle.cutoff_program.proofs.Rooms.{false_true}
@@ -189,7 +189,7 @@ joined-in (i, j) h = by h.2
     by (inl u) = pair i j h.0 h.1 u.0 u.1 u.2
     by (inr z) = subst (λ k. In (i, k) edges) (sym z.0) (final i h.0 h.1 z.1)
 
-pub triangle-trimmed : IsTrimmed triangle_net any_automaton 0 1 triangle_product
+pub triangle-trimmed : IsTrimmedProduct triangle_net any_automaton 0 1 triangle_product
 triangle-trimmed = record {
   inner = vertex 2 ∷ vertex 3 ∷ vertex 4 ∷ [];
   state = 0;

@@ -1,10 +1,10 @@
 -- The product between two hosts as lists: its vertices and its edges, in order.
-use Rattle.std.specs.Prelude.{ℕ, ◌≡◌, ◌≢◌, ◌≤◌, ◌<◌, ◌==◌, ◌&&◌, ◌⊎◌, ◌↔◌, List, [], ◌∷◌, ◌++◌, length, map, Option, Some, slice_get, position, Contains}
+use Rattle.std.specs.Prelude.{ℕ, ◌≡◌, ◌≢◌, ◌≤◌, ◌==◌, ◌&&◌, ◌⊎◌, ◌↔◌, List, [], ◌∷◌, ◌++◌, length, map, Option, slice_get, position, Contains}
 use Rattle.std.specs.Option.{option_map_or}
 use Rattle.std.specs.List.{AllByRecursion}
 use Rattle.merlin_model.specs.Networks.{Network, directed_links, Pairwise}
 use Rattle.merlin_model.specs.Words.{at}
-use Rattle.rules_model.specs.Products.{SymbolAutomaton, Vertex, loc_of, start_of, function_place, IsEdge, IsLast, LeadsToEnd, IsOnWayBetween}
+use Rattle.rules_model.specs.Products.{SymbolAutomaton, Vertex, loc_of, start_of, IsLast, LeadsToEnd, IsOnWayBetween, IsBefore, IsEdgeBefore, IsJoined}
 use Rattle.cutoff_program.specs.Flows.{FlowEdge, Flow}
 
 -- The vertices from the start to the end, and the edges by the places of their two vertices. Both lists are empty where no
@@ -12,21 +12,6 @@ use Rattle.cutoff_program.specs.Flows.{FlowEdge, Flow}
 pub record Product : Type 0 where
   pub vertices : List Vertex
   pub edges : List (ℕ × ℕ)
-
--- by location, function (none first) and state
-abbrev pub IsBefore : Vertex → Vertex → Type 0
-IsBefore u v =
-    (loc_of u < loc_of v)
-    ⊎ ((loc_of u ≡ loc_of v) × ((function_place u.symbol.fun < function_place v.symbol.fun)
-    ⊎ ((function_place u.symbol.fun ≡ function_place v.symbol.fun) × (u.state < v.state))))
-
-abbrev pub IsEdgeBefore : ℕ × ℕ → ℕ × ℕ → Type 0
-IsEdgeBefore e f = (e.0 < f.0) ⊎ ((e.0 ≡ f.0) × (e.1 < f.1))
-
--- an edge leads from the vertex at the first place to that at the second, or to the end, which stands after these vertices
-abbrev pub IsJoined : Network → SymbolAutomaton → ℕ → List Vertex → ℕ × ℕ → Type 0
-IsJoined net a d inside e =
-    (v : Vertex) × (slice_get inside e.0 ≡ Some v) × (((u : Vertex) × (slice_get inside e.1 ≡ Some u) × IsEdge net a v u) ⊎ ((e.1 ≡ length inside) × IsLast net a d v))
 
 -- no way leads from the start to the end
 pub record IsEmptyProduct (net : Network) (a : SymbolAutomaton) (s d : ℕ) (product : Product) : Type 0 where
@@ -36,7 +21,7 @@ pub record IsEmptyProduct (net : Network) (a : SymbolAutomaton) (s d : ℕ) (pro
 
 -- The start, then the other vertices that it leads to and that lead to the end, in order; last the end, in the least state
 -- in which it is entered.
-pub record IsTrimmed (net : Network) (a : SymbolAutomaton) (s d : ℕ) (product : Product) : Type 0 where
+pub record IsTrimmedProduct (net : Network) (a : SymbolAutomaton) (s d : ℕ) (product : Product) : Type 0 where
   pub inner : List Vertex
   pub state : ℕ
   pub vertices : product.vertices ≡ (start_of a s ∷ inner) ++ record { symbol = at d; state = state } ∷ []
@@ -48,8 +33,8 @@ pub record IsTrimmed (net : Network) (a : SymbolAutomaton) (s d : ℕ) (product 
   pub joined : (e : ℕ × ℕ) → Contains product.edges e ↔ IsJoined net a d (start_of a s ∷ inner) e
   pub in_order : Pairwise IsEdgeBefore product.edges
 
-abbrev pub IsProduct : Network → SymbolAutomaton → ℕ → ℕ → Product → Type 0
-IsProduct net a s d product = IsEmptyProduct net a s d product ⊎ IsTrimmed net a s d product
+abbrev pub IsProductOfHosts : Network → SymbolAutomaton → ℕ → ℕ → Product → Type 0
+IsProductOfHosts net a s d product = IsEmptyProduct net a s d product ⊎ IsTrimmedProduct net a s d product
 
 -- A product as a flow.
 

@@ -17,7 +17,7 @@ use Rattle.merlin_model.specs.Programs.{IsSolution}
 use Rattle.rules_model.specs.Products.{SymbolAutomaton, Vertex, RecognisesPath}
 use Rattle.cutoff_program.specs.Flows.{Flow, Problem, Variable, variables_of, last_of, rate_over, cost_of_variable, program_at, cutoff_of, takes, is_below}
 use Rattle.cutoff_program.specs.Trails.{IsTrailOf, sum_along, comes_to, IsNeat}
-use Rattle.cutoff_program.specs.Products.{Product, IsProduct, flow_of}
+use Rattle.cutoff_program.specs.Products.{Product, IsProductOfHosts, flow_of}
 
 -- the automaton takes exactly the words of the network's symbols that are on the path of statement i
 pub record IsAutomatonFor (net : Network) (policy : Policy) (i : ℕ) (a : SymbolAutomaton) : Type 0 where
@@ -35,7 +35,7 @@ pub record IsFlowOf (net : Network) (policy : Policy) (automata : ℕ → Symbol
   pub hosts : AreTwoHosts net ends
   pub automaton : IsAutomatonFor net policy ends.statement (automata ends.statement)
   pub product : Product
-  pub is_product : IsProduct net (automata ends.statement) ends.src ends.dst product
+  pub is_product : IsProductOfHosts net (automata ends.statement) ends.src ends.dst product
   pub is : flow ≡ flow_of net (min_of policy ends.statement) product
 
 -- the problem of a policy: the flows of its guaranteed statements over the links of the network

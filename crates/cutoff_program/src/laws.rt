@@ -17,7 +17,7 @@ ghost use Rattle.rules_model.specs.Products.{SymbolAutomaton};
 ghost use Rattle.cutoff_program.specs.Flows.{Flow, Problem, program_at, cutoff_of, takes, is_below, entries_from, chosen_from, Variable, variables_of, last_of, cost_of_variable};
 ghost use Rattle.cutoff_program.specs.Limits.{IsProblem, HasCutoffsOf};
 ghost use Rattle.cutoff_program.specs.Trails.{IsTrailOf, IsShortened, IsBalanced, HasChosenTrail, IsPath, ArePaths, AreTrailsFrom, edges_of, point_with, FitsCapacities, IsPointOf, HasPaths, AreOverChosenEdges, AreWithinPoint};
-ghost use Rattle.cutoff_program.specs.Products.{IsProduct, flow_of};
+ghost use Rattle.cutoff_program.specs.Products.{IsProductOfHosts, flow_of};
 ghost use Rattle.cutoff_program.specs.Walks.{IsFlowOf, IsProblemOf, KeepsPolicyLimits, HasTrailFor, HasWalkFor, HasPoint, HasWalks};
 ghost use Rattle.cutoff_program.specs.Rows.{below_421, rights, right_of_row, triangle, cut_off, two_walks, all_shut, triangle_net, any_automaton, triangle_product, over_triangle};
 
@@ -140,7 +140,7 @@ pub fn points_give_walks()
 
 /// The product of two hosts in a triangle of switches, as a flow.
 pub fn triangle_flow()
-    ensures product { IsProduct triangle_net any_automaton 0 1 triangle_product }
+    ensures product { IsProductOfHosts triangle_net any_automaton 0 1 triangle_product }
     ensures flow { flow_of triangle_net 60 triangle_product ≡ over_triangle }
 {}
 

@@ -6,7 +6,7 @@ use Rattle.std.proofs.lemmas.Grind.{reverse_onto}
 use Rattle.merlin_model.proofs.Members.{in_from}
 use Rattle.graph_search.specs.declared.graph.Edge.{Edge}
 use Rattle.graph_search.specs.declared.search.SearchState.{SearchState}
-use Rattle.graph_search.specs.Graphs.{known_at, IsPath, cost_of_edge, cost_of_path, GoesBack, IsReachedAtCost, ArePotentials}
+use Rattle.graph_search.specs.Graphs.{known_at, IsEdgePath, cost_of_edge, cost_of_path, GoesBack, IsReachedAtCost, ArePotentials}
 use Rattle.graph_search.specs.Frontiers.{HasAlso, IsTakenOut}
 use Rattle.graph_search.specs.Departures.{IsLastToLeave}
 use Rattle.graph_search.specs.Searching.{is_settled, cost_of_settled, ComesBack, IsSettling, IsReadyToSettle}
@@ -158,12 +158,12 @@ all-followed n edges source cost turn bound s searching none own = record {
 
 -- At the end.
 
-back-path : (edges : List Edge) (before : List (Option ℕ)) (settled : List Bool) (source : ℕ) (ks : List ℕ) (v w : ℕ) (path : List ℕ) → ComesBack edges before settled source ks v → IsPath edges v path w → IsPath edges source (reverse ks ++ path) w
-back-path edges before settled source [] v w path h p = subst (λ u. IsPath edges u path w) h p
+back-path : (edges : List Edge) (before : List (Option ℕ)) (settled : List Bool) (source : ℕ) (ks : List ℕ) (v w : ℕ) (path : List ℕ) → ComesBack edges before settled source ks v → IsEdgePath edges v path w → IsEdgePath edges source (reverse ks ++ path) w
+back-path edges before settled source [] v w path h p = subst (λ u. IsEdgePath edges u path w) h p
 back-path edges before settled source (k ∷ ks) v w path h p =
-    let more : IsPath edges h.0.from (k ∷ path) w = (h.0, h.2, refl, subst (λ u. IsPath edges u path w) (sym h.3) p) in
-    let rest : IsPath edges source (reverse ks ++ k ∷ path) w = back-path edges before settled source ks h.0.from w (k ∷ path) h.5 more in
-    subst (λ l. IsPath edges source l w) (sym (turned ks)) rest
+    let more : IsEdgePath edges h.0.from (k ∷ path) w = (h.0, h.2, refl, subst (λ u. IsEdgePath edges u path w) (sym h.3) p) in
+    let rest : IsEdgePath edges source (reverse ks ++ k ∷ path) w = back-path edges before settled source ks h.0.from w (k ∷ path) h.5 more in
+    subst (λ l. IsEdgePath edges source l w) (sym (turned ks)) rest
   where
     turned : (ks : List ℕ) → reverse (k ∷ ks) ++ path ≡ reverse ks ++ k ∷ path
     turned ks = ap (λ l. l ++ path) (reverse_onto ks k []) ∙ append_assoc (reverse ks) (k ∷ []) path
@@ -190,7 +190,7 @@ module _ (n : ℕ) (edges : List Edge) (source low : ℕ) (s : SearchState) (sea
           absurd (none-waits (c, v) (subst (λ l. Contains l (c, v)) none (searching.waiting v c (λ same. omega (arith, lt, size, same)) q d)))
 
   -- along a path distances grow by no more than it costs
-  path-bound : (path : List ℕ) (u v c : ℕ) → known_at s.distance u ≡ Some c → IsPath edges u path v → (b : ℕ) × (known_at s.distance v ≡ Some b) × (b ≤ c + cost_of_path edges path)
+  path-bound : (path : List ℕ) (u v c : ℕ) → known_at s.distance u ≡ Some c → IsEdgePath edges u path v → (b : ℕ) × (known_at s.distance v ≡ Some b) × (b ≤ c + cost_of_path edges path)
   path-bound [] u v c d p = (c, ap (known_at s.distance) (sym p) ∙ d, omega arith)
   path-bound (k ∷ path) u v c d p =
       let from : known_at s.distance p.0.from ≡ Some c = ap (known_at s.distance) p.2 ∙ d in
@@ -215,7 +215,7 @@ module _ (n : ℕ) (edges : List Edge) (source low : ℕ) (s : SearchState) (sea
           record {
             back = h.0;
             goes_back = back-goes edges s.before s.settled source searching.start_before h.0 v h.1;
-            path = subst (λ l. IsPath edges source l v) (append-none (reverse h.0)) (back-path edges s.before s.settled source h.0 v v [] h.1 refl);
+            path = subst (λ l. IsEdgePath edges source l v) (append-none (reverse h.0)) (back-path edges s.before s.settled source h.0 v v [] h.1 refl);
             costs = reverse-cost edges h.0 ∙ h.2;
             least = λ other p. let b = path-bound other source v 0 searching.start p in let same : b.0 ≡ cost = some-same (sym b.1 ∙ d) in let le = b.2 in omega (arith, same, le);
           }

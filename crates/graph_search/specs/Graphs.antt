@@ -10,10 +10,10 @@ abbrev pub AreEdgesAmong : ℕ → List Edge → Type 0
 AreEdgesAmong n edges = AllByRecursion (λ e. (e.from < n) × (e.to < n)) edges
 
 -- the edges of these numbers lead from u to v
-abbrev pub IsPath : List Edge → ℕ → List ℕ → ℕ → Type 0
-IsPath edges u [] v = u ≡ v
-IsPath edges u (k ∷ path) v =
-    (e : Edge) × (slice_get edges k ≡ Some e) × (e.from ≡ u) × IsPath edges e.to path v
+abbrev pub IsEdgePath : List Edge → ℕ → List ℕ → ℕ → Type 0
+IsEdgePath edges u [] v = u ≡ v
+IsEdgePath edges u (k ∷ path) v =
+    (e : Edge) × (slice_get edges k ≡ Some e) × (e.from ≡ u) × IsEdgePath edges e.to path v
 
 abbrev pub cost_of_edge : List Edge → ℕ → ℕ
 cost_of_edge edges k = option_map_or (λ e. e.cost) (slice_get edges k) 0
@@ -41,9 +41,9 @@ GoesBack edges before source (k ∷ ks) v =
 pub record IsReachedAtCost (edges : List Edge) (before : List (Option ℕ)) (source v cost : ℕ) : Type 0 where
   pub back : List ℕ
   pub goes_back : GoesBack edges before source back v
-  pub path : IsPath edges source (reverse back) v
+  pub path : IsEdgePath edges source (reverse back) v
   pub costs : cost_of_path edges (reverse back) ≡ cost
-  pub least : (other : List ℕ) → IsPath edges source other v → cost ≤ cost_of_path edges other
+  pub least : (other : List ℕ) → IsEdgePath edges source other v → cost ≤ cost_of_path edges other
 
 -- The least costs of paths from the source, and the last edges of such paths. Where there is no
 -- distance no path leads, and there is no last edge either.
@@ -52,4 +52,4 @@ pub record ArePotentials (n : ℕ) (edges : List Edge) (source : ℕ) (p : Poten
   pub befores : length p.before ≡ n
   pub reached : (v cost : ℕ) → known_at p.distance v ≡ Some cost → IsReachedAtCost edges p.before source v cost
   pub unreached : (v : ℕ) → known_at p.distance v ≡ None →
-      (known_at p.before v ≡ None) × ((path : List ℕ) → ¬ IsPath edges source path v)
+      (known_at p.before v ≡ None) × ((path : List ℕ) → ¬ IsEdgePath edges source path v)

@@ -12,7 +12,7 @@ use Rattle.path_automaton.proofs.Building.{get-in}
 use Rattle.policy_expansion.specs.declared.policy.Policy.{Policy}
 use Rattle.policy_parser.specs.declared.fault.PolicyFault.{PolicyFault}
 use Rattle.policy_parser.specs.declared.fault.PolicyFault.TheVariants as faults
-use Rattle.policy_parser.specs.Policies.{IsPolicyText, AreOne}
+use Rattle.policy_parser.specs.Policies.{IsPolicyText, AreOneReading}
 use Rattle.policy_parser.proofs.Once.{one_reading}
 use Rattle.policy_check.specs.declared.fault.CheckFault.{CheckFault}
 use Rattle.policy_check.specs.Numbered.{numbered_policy}
@@ -137,7 +137,7 @@ module _ (p c t : List ℕ) (net : Network) (parent child : NumberedPolicy) (is 
 
 -- A text stands for one policy or is refused, and not both.
 
-same_policy : (a b : Policy) → AreOne (Ok a) (Ok b) → a ≡ b
+same_policy : (a b : Policy) → AreOneReading (Ok a) (Ok b) → a ≡ b
 same_policy a b (inl e) = cc
 same_policy a b (inr (inl e)) = cc
 same_policy a b (inr (inr e)) = cc
@@ -145,7 +145,7 @@ same_policy a b (inr (inr e)) = cc
 one_policy : (text : List ℕ) (a b : Policy) → IsPolicyText text a → IsPolicyText text b → a ≡ b
 one_policy text a b is is' = same_policy a b (one_reading text (Ok a) (Ok b) is is')
 
-policy_or_fault : (policy : Policy) (fault : PolicyFault) → fault ≢ faults.OutOfMemory → AreOne (Ok policy) (Err fault) → ⊥
+policy_or_fault : (policy : Policy) (fault : PolicyFault) → fault ≢ faults.OutOfMemory → AreOneReading (Ok policy) (Err fault) → ⊥
 policy_or_fault policy fault known (inl e) = cc
 policy_or_fault policy fault known (inr (inl e)) = let memory : fault ≡ faults.OutOfMemory = cc in known memory
 policy_or_fault policy fault known (inr (inr e)) = cc

@@ -14,7 +14,7 @@ use Rattle.cutoff_program.specs.declared.flow.Problem.{Problem}
 use Rattle.policy_expansion.specs.declared.policy.Policy.{Policy}
 use Rattle.policy_parser.specs.declared.fault.PolicyFault.{PolicyFault}
 use Rattle.policy_parser.specs.declared.fault.PolicyFault.TheVariants as policy_faults
-use Rattle.policy_parser.specs.Policies.{IsPolicyText, IsRefused, AreOne}
+use Rattle.policy_parser.specs.Policies.{IsPolicyText, IsRefused, AreOneReading}
 use Rattle.policy_parser.proofs.Once.{one_reading}
 use Rattle.policy_check.specs.Checked.{CheckedPolicy}
 use Rattle.policy_flows.specs.Layouts.{IsLayout}
@@ -24,7 +24,7 @@ use Rattle.merlin_compile.specs.Input.{WasChecked, HasOnePairs, IsInput}
 
 -- a text stands for one policy, and is not refused then
 
-not-one : (policy : Policy) (fault : PolicyFault) → fault ≢ policy_faults.OutOfMemory → AreOne (Ok policy) (Err fault) → ⊥
+not-one : (policy : Policy) (fault : PolicyFault) → fault ≢ policy_faults.OutOfMemory → AreOneReading (Ok policy) (Err fault) → ⊥
 not-one policy fault known (inl e) = cc
 not-one policy fault known (inr (inl e)) = let memory : fault ≡ policy_faults.OutOfMemory = cc in known memory
 not-one policy fault known (inr (inr e)) = cc
@@ -32,7 +32,7 @@ not-one policy fault known (inr (inr e)) = cc
 pub not-refused : (text : List ℕ) (policy : Policy) (fault : PolicyFault) → fault ≢ policy_faults.OutOfMemory → IsPolicyText text policy → IsRefused fault text → ⊥
 not-refused text policy fault known stands refused = not-one policy fault known (one_reading text (Ok policy) (Err fault) stands refused)
 
-same : (p q : Policy) → AreOne (Ok p) (Ok q) → p ≡ q
+same : (p q : Policy) → AreOneReading (Ok p) (Ok q) → p ≡ q
 same p q (inl e) = cc
 same p q (inr (inl e)) = cc
 same p q (inr (inr e)) = cc

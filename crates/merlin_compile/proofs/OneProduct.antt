@@ -6,9 +6,9 @@ use Rattle.merlin_model.specs.Words.{at}
 use Rattle.merlin_model.proofs.Members.{In, in_from, in_to, all_in}
 use Rattle.merlin_model.proofs.Ascending.{ascending-one}
 use Rattle.path_automaton.proofs.Building.{get-in}
-use Rattle.rules_model.specs.Products.{SymbolAutomaton, Vertex, loc_of, start_of, function_place, IsEdge, IsLast, LeadsToEnd, LeadsTo, IsOnWayBetween}
+use Rattle.rules_model.specs.Products.{SymbolAutomaton, Vertex, loc_of, start_of, function_place, IsEdge, IsLast, LeadsToEnd, LeadsTo, IsOnWayBetween, IsJoined, IsBefore, IsEdgeBefore}
 use Rattle.rules_model.proofs.Trees.{host_symbol}
-use Rattle.cutoff_program.specs.Products.{Product, IsProduct, IsEmptyProduct, IsTrimmed, IsJoined, IsBefore, IsEdgeBefore}
+use Rattle.cutoff_program.specs.Products.{Product, IsProductOfHosts, IsEmptyProduct, IsTrimmedProduct}
 use Rattle.policy_configuration.proofs.OneLimit.{DoAlike, alike-back, edge, last, leads, comes, on-way}
 
 -- orders of vertices and of edges
@@ -65,7 +65,7 @@ module _ (net : Network) (a b : SymbolAutomaton) (n : ℕ) (alike : DoAlike net 
     edges = h.edges;
   }
 
-  trimmed-alike : (p : Product) → IsTrimmed net a s d p → IsTrimmed net b s d p
+  trimmed-alike : (p : Product) → IsTrimmedProduct net a s d p → IsTrimmedProduct net b s d p
   trimmed-alike p t =
       let to : (v : Vertex) → Contains (start_of a s ∷ t.inner) v → Contains (start_of b s ∷ t.inner) v = λ v. subst (λ x. Contains (x ∷ t.inner) v) start-alike in
       let from : (v : Vertex) → Contains (start_of b s ∷ t.inner) v → Contains (start_of a s ∷ t.inner) v = λ v. subst (λ x. Contains (x ∷ t.inner) v) (sym start-alike) in
@@ -95,7 +95,7 @@ module _ (net : Network) (a b : SymbolAutomaton) (n : ℕ) (alike : DoAlike net 
         in_order = t.in_order;
       }
 
-  pub product-alike : (p : Product) → IsProduct net a s d p → IsProduct net b s d p
+  pub product-alike : (p : Product) → IsProductOfHosts net a s d p → IsProductOfHosts net b s d p
   product-alike p (inl h) = inl (empty-alike p h)
   product-alike p (inr t) = inr (trimmed-alike p t)
 
@@ -104,20 +104,20 @@ module _ (net : Network) (a : SymbolAutomaton) (s d : ℕ) where
   abbrev Inside : List Vertex → List Vertex
   Inside inner = start_of a s ∷ inner
 
-  within : (p q : Product) (t : IsTrimmed net a s d p) (u : IsTrimmed net a s d q) → (v : Vertex) → In v t.inner → In v u.inner
+  within : (p q : Product) (t : IsTrimmedProduct net a s d p) (u : IsTrimmedProduct net a s d q) → (v : Vertex) → In v t.inner → In v u.inner
   within p q t u v i = by (in_from (Inside u.inner) v ((u.exactly v).1 ((t.exactly v).0 (in_to (Inside t.inner) v (inr i)))))
     where
       by : In v (Inside u.inner) → In v u.inner
       by (inl e) = absurd (all_in (λ w. start_of a s ≢ w) t.inner v t.others i (sym e))
       by (inr j) = j
 
-  lower : (p q : Product) (t : IsTrimmed net a s d p) (u : IsTrimmed net a s d q) → t.inner ≡ u.inner → t.state ≤ u.state
+  lower : (p q : Product) (t : IsTrimmedProduct net a s d p) (u : IsTrimmedProduct net a s d q) → t.inner ≡ u.inner → t.state ≤ u.state
   lower p q t u same =
       let v = u.entered.0 in
       let less : t.state ≤ a.step v.state (at d) = t.least v (subst (λ l. Contains (Inside l) v) (sym same) u.entered.1) u.entered.2 in
       subst (λ m. t.state ≤ m) (sym u.entered.3) less
 
-  one-trimmed : (p q : Product) → IsTrimmed net a s d p → IsTrimmed net a s d q → p ≡ q
+  one-trimmed : (p q : Product) → IsTrimmedProduct net a s d p → IsTrimmedProduct net a s d q → p ≡ q
   one-trimmed p q t u =
       let inner : t.inner ≡ u.inner = ascending-one IsBefore before-not before-trans t.inner u.inner t.ascending u.ascending (within p q t u) (within q p u t) in
       let under = lower p q t u inner in
@@ -129,10 +129,10 @@ module _ (net : Network) (a : SymbolAutomaton) (s d : ℕ) where
       (λ e i. in_from p.edges e ((t.joined e).1 (subst (λ l. IsJoined net a d (Inside l) e) (sym inner) ((u.joined e).0 (in_to q.edges e i))))) in
       λ i. record { vertices = vertices i; edges = edges i }
 
-  not-empty : (p q : Product) → IsEmptyProduct net a s d p → IsTrimmed net a s d q → ⊥
+  not-empty : (p q : Product) → IsEmptyProduct net a s d p → IsTrimmedProduct net a s d q → ⊥
   not-empty p q h t = let way = (t.exactly (start_of a s)).0 (in_to (Inside t.inner) (start_of a s) (inl refl)) in h.none way.after way.leads
 
-  pub one-product : (p q : Product) → IsProduct net a s d p → IsProduct net a s d q → p ≡ q
+  pub one-product : (p q : Product) → IsProductOfHosts net a s d p → IsProductOfHosts net a s d q → p ≡ q
   one-product p q (inl h) (inl k) =
       let vertices : p.vertices ≡ q.vertices = h.vertices ∙ sym k.vertices in
       let edges : p.edges ≡ q.edges = h.edges ∙ sym k.edges in

@@ -17,7 +17,7 @@ use Rattle.configuration_model.proofs.Decided.{host-listed}
 use Rattle.rule_tables.specs.declared.branches.Step.{Step}
 use Rattle.rule_tables.specs.declared.branches.Branch.{Branch}
 use Rattle.rule_tables.specs.declared.branches.GroupBranches.{GroupBranches}
-use Rattle.rule_tables.specs.Branches.{vertex_in, vertex_at, next_at, LeadsOn, IsBranch, AreGroupBranches}
+use Rattle.rule_tables.specs.Branches.{vertex_in, vertex_at, next_step_at, LeadsOn, IsBranch, AreGroupBranches}
 use Rattle.openflow_rules.specs.GroupSpans.{span_to}
 use Rattle.openflow_rules.specs.Gathered.{IsBranchTo, IsBranchFor}
 use Rattle.openflow_rules.specs.WalkBranches.{place_after}
@@ -141,7 +141,7 @@ next-place n k lt = by (nat_lt (suc k) n) refl
     by true is = refl
     by false is = absurd (let ge : n ≤ suc k = grind arith in omega (arith, lt, ge))
 
-module _ (steps : List Step) (vs : List Vertex) (vertices : map vertex_in steps ≡ vs) (follows : (k : ℕ) → k < length steps → next_at steps k ≡ Some (place_after (length steps) k)) where
+module _ (steps : List Step) (vs : List Vertex) (vertices : map vertex_in steps ≡ vs) (follows : (k : ℕ) → k < length steps → next_step_at steps k ≡ Some (place_after (length steps) k)) where
   long : length steps ≡ length vs
   long = sym (map-length vertex_in steps) ∙ ap length vertices
 

@@ -2,17 +2,17 @@
 use Rattle.std.proofs.Common.{◌≡◌, ◌≢◌, ◌⊎◌, ◌<◌, ◌≤◌, inl, inr, ◌+◌, ◌==◌, ℕ, zero, suc, Bool, true, false, cond, List, [], ◌∷◌, ◌++◌, length, map, take, get_or, slice_get, Contains, Option, None, Some, refl, sym, ◌∙◌, ap, subst, arith}
 use Rattle.std.specs.Prelude.{option_map}
 use Rattle.merlin_model.specs.Networks.{Network, IsHost, Pairwise}
-use Rattle.rules_model.specs.Products.{SymbolAutomaton, Vertex, loc_of, function_place, start_of, LeadsToEnd, TreeFollows}
+use Rattle.rules_model.specs.Products.{SymbolAutomaton, Vertex, loc_of, function_place, start_of, LeadsToEnd, TreeFollows, IsBefore}
 use Rattle.product_graph.specs.declared.span.Vertex.{Vertex as ListedVertex}
 use Rattle.product_graph.specs.declared.span.Product.{Product}
 use Rattle.product_graph.specs.declared.span.Span2.TheVariants.{All}
-use Rattle.product_graph.specs.Products.{vertex_of, vertices_of, IsBefore, IsTrimmed}
+use Rattle.product_graph.specs.Products.{vertex_of, vertices_of, IsTrimmed}
 use Rattle.product_graph.proofs.Lists.{some-same, none-some, below_or_at, get-below, get-contains, contains-left, get-more, take-more, map-length, pairwise-append, pairwise-map, length-more}
 use Rattle.path_automaton.proofs.Classing.{get-end}
 use Rattle.sink_tree.specs.Trees.{NextLeads, IsSinkTree}
 use Rattle.rule_tables.specs.declared.branches.Step.{Step}
 use Rattle.rule_tables.specs.declared.branches.Branch.{Branch}
-use Rattle.rule_tables.specs.Branches.{vertex_in, vertex_at, next_at, LeadsOn}
+use Rattle.rule_tables.specs.Branches.{vertex_in, vertex_at, next_step_at, LeadsOn}
 use Rattle.openflow_rules.specs.SinkBranches.{before_end, AreStepsBelow, IsSinkBranch}
 
 pub get-mapped : {X Y : Type 0} (f : X → Y) (xs : List X) (k : ℕ) → slice_get (map f xs) k ≡ option_map f (slice_get xs k)
@@ -73,14 +73,14 @@ steps-next product next end n steps d step lt h vertex following = record {
     below-or : (k : ℕ) → k < n + 1 → (k < n) ⊎ (k ≡ n)
     below-or k below = below_or_at n k below
 
-    by : (k : ℕ) → (k < n) ⊎ (k ≡ n) → next_at (steps ++ step ∷ []) k ≡ Some (before_end end (next k))
+    by : (k : ℕ) → (k < n) ⊎ (k ≡ n) → next_step_at (steps ++ step ∷ []) k ≡ Some (before_end end (next k))
     by k (inl lt_n) = here (slice_get steps k) refl (h.follows k lt_n)
       where
-        here : (o : Option Step) → slice_get steps k ≡ o → option_map (λ s. s.next) o ≡ Some (before_end end (next k)) → next_at (steps ++ step ∷ []) k ≡ Some (before_end end (next k))
+        here : (o : Option Step) → slice_get steps k ≡ o → option_map (λ s. s.next) o ≡ Some (before_end end (next k)) → next_step_at (steps ++ step ∷ []) k ≡ Some (before_end end (next k))
         here None e is = absurd (none-some is)
         here (Some s) e is = ap (option_map (λ x. x.next)) (get-more steps (step ∷ []) k s e) ∙ is
     by k (inr e) =
-        ap (next_at (steps ++ step ∷ [])) (e ∙ sym long) ∙ ap (option_map (λ x. x.next)) (get-end steps step) ∙ ap Some (following ∙ ap (λ m. before_end end (next m)) (sym e))
+        ap (next_step_at (steps ++ step ∷ [])) (e ∙ sym long) ∙ ap (option_map (λ x. x.next)) (get-end steps step) ∙ ap Some (following ∙ ap (λ m. before_end end (next m)) (sym e))
 
 -- the places before the end go on as the sink tree does
 module _ (net : Network) (a : SymbolAutomaton) (d : ℕ) (product : Product) (next : ℕ → Option ℕ) (is : IsTrimmed net a (All d) product) (tree : IsSinkTree net a d product next) where

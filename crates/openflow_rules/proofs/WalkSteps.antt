@@ -12,7 +12,7 @@ use Rattle.product_graph.proofs.Lists.{none-some, below_or_at, get-below, get-mo
 use Rattle.configuration_model.specs.Groups.{vertices_after}
 use Rattle.rule_tables.specs.declared.branches.Step.{Step}
 use Rattle.rule_tables.specs.declared.branches.Branch.{Branch}
-use Rattle.rule_tables.specs.Branches.{vertex_in, next_at}
+use Rattle.rule_tables.specs.Branches.{vertex_in, next_step_at}
 use Rattle.openflow_rules.specs.WalkBranches.{vertices_on_word, place_after, IsBeforeLast, AreStepsAlong, IsWalkBranch}
 use Rattle.openflow_rules.proofs.Steps.{drop-more, drop-past}
 
@@ -40,7 +40,7 @@ number-past symbols x n le e = let f = e ∙ ap (λ l. n + number_in l x) (drop-
 pub record AreStepsTo (a : SymbolAutomaton) (word : List Symbol) (n state : ℕ) (steps : List Step) : Type 0 where
   pub vertices : map vertex_in steps ++ vertices_on_word a state (drop n word) ≡ vertices_on_word a 0 word
   pub size : length steps ≡ n
-  pub follows : (k : ℕ) → k < n → next_at steps k ≡ Some (place_after (length word) k)
+  pub follows : (k : ℕ) → k < n → next_step_at steps k ≡ Some (place_after (length word) k)
 
 map-snoc : (steps : List Step) (s : Step) → map vertex_in (steps ++ s ∷ []) ≡ map vertex_in steps ++ vertex_in s ∷ []
 map-snoc [] s = refl
@@ -73,14 +73,14 @@ along-next a word n state steps d step lt h vertex next = record {
   follows = λ k below. by k (below_or_at n k below);
 }
   where
-    by : (k : ℕ) → (k < n) ⊎ (k ≡ n) → next_at (steps ++ step ∷ []) k ≡ Some (place_after (length word) k)
+    by : (k : ℕ) → (k < n) ⊎ (k ≡ n) → next_step_at (steps ++ step ∷ []) k ≡ Some (place_after (length word) k)
     by k (inl lt_n) = old (slice_get steps k) refl (h.follows k lt_n)
       where
-        old : (o : Option Step) → slice_get steps k ≡ o → option_map (λ s. s.next) o ≡ Some (place_after (length word) k) → next_at (steps ++ step ∷ []) k ≡ Some (place_after (length word) k)
+        old : (o : Option Step) → slice_get steps k ≡ o → option_map (λ s. s.next) o ≡ Some (place_after (length word) k) → next_step_at (steps ++ step ∷ []) k ≡ Some (place_after (length word) k)
         old None e is = absurd (none-some is)
         old (Some s) e is = ap (option_map (λ x. x.next)) (get-more steps (step ∷ []) k s e) ∙ is
     by k (inr e) =
-        ap (next_at (steps ++ step ∷ [])) (e ∙ sym h.size) ∙ ap (option_map (λ x. x.next)) (get-end steps step) ∙ ap Some (next ∙ ap (place_after (length word)) (sym e))
+        ap (next_step_at (steps ++ step ∷ [])) (e ∙ sym h.size) ∙ ap (option_map (λ x. x.next)) (get-end steps step) ∙ ap Some (next ∙ ap (place_after (length word)) (sym e))
 
 pub along-all : (a : SymbolAutomaton) (word : List Symbol) (n state : ℕ) (steps : List Step) → n ≡ length word → AreStepsTo a word n state steps → AreStepsAlong a word steps
 along-all a word n state steps all h = record {
@@ -107,7 +107,7 @@ pub branch-of-walk : (a : SymbolAutomaton) (walk inner : List Symbol) (dest : �
 branch-of-walk a walk inner dest branch before h same = record {
   dest_is = same;
   vertices = h.vertices ∙ by before;
-  follows = λ k lt. subst (λ n. next_at branch.steps k ≡ Some (place_after n k)) (sym long) (h.follows k (let l = long in omega (arith, lt, l)));
+  follows = λ k lt. subst (λ n. next_step_at branch.steps k ≡ Some (place_after n k)) (sym long) (h.follows k (let l = long in omega (arith, lt, l)));
 }
   where
     by : IsBeforeLast walk inner → vertices_on_word a 0 inner ≡ vertices_after a 0 walk

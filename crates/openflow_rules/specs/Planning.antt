@@ -7,9 +7,8 @@ use Rattle.merlin_model.specs.Networks.{Network, IsHost, Pairwise}
 use Rattle.merlin_model.specs.Words.{at}
 use Rattle.path_automaton.specs.Automata.{AutomatonTables}
 use Rattle.topology.specs.Symbols.{network_symbols}
-use Rattle.rules_model.specs.Products.{Vertex, loc_of, WrittenWalk, Group, IsVertex}
+use Rattle.rules_model.specs.Products.{Vertex, loc_of, WrittenWalk, Group, IsVertex, IsBefore}
 use Rattle.rules_model.specs.Tables.{TagKey, IsBelowKey, IsTagKey, all_hosts}
-use Rattle.product_graph.specs.Products.{IsBefore}
 use Rattle.predicate_split.specs.declared.fault.TheConstants.{MAX_CELLS}
 use Rattle.policy_check.specs.Checked.{CheckedPolicy}
 use Rattle.configuration_model.specs.Groups.{AreGrouped, AreGroups}

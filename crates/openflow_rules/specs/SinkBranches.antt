@@ -6,7 +6,7 @@ use Rattle.product_graph.specs.declared.span.Product.{Product}
 use Rattle.product_graph.specs.Products.{vertices_of}
 use Rattle.rule_tables.specs.declared.branches.Step.{Step}
 use Rattle.rule_tables.specs.declared.branches.Branch.{Branch}
-use Rattle.rule_tables.specs.Branches.{vertex_in, vertex_at, next_at, LeadsOn}
+use Rattle.rule_tables.specs.Branches.{vertex_in, vertex_at, next_step_at, LeadsOn}
 
 -- none where the end follows
 abbrev pub before_end : ℕ → Option ℕ → Option ℕ
@@ -16,7 +16,7 @@ before_end end (Some j) = if j == end then None else Some j
 -- the first so many vertices, each with the place of what follows it
 pub record AreStepsBelow (product : Product) (next : ℕ → Option ℕ) (end n : ℕ) (steps : List Step) : Type 0 where
   pub vertices : map vertex_in steps ≡ take n (vertices_of product)
-  pub follows : (k : ℕ) → k < n → next_at steps k ≡ Some (before_end end (next k))
+  pub follows : (k : ℕ) → k < n → next_step_at steps k ≡ Some (before_end end (next k))
 
 -- all vertices for host d, once, each with what follows it in the sink tree; also each that an allowed walk starts from
 pub record IsSinkBranch (net : Network) (a : SymbolAutomaton) (d : ℕ) (branch : Branch) : Type 0 where

@@ -4,7 +4,7 @@ use Rattle.merlin_model.specs.declared.policy.Symbol.{Symbol}
 use Rattle.rules_model.specs.Products.{SymbolAutomaton, Vertex}
 use Rattle.rule_tables.specs.declared.branches.Branch.{Branch}
 use Rattle.rule_tables.specs.declared.branches.Step.{Step}
-use Rattle.rule_tables.specs.Branches.{vertex_in, next_at}
+use Rattle.rule_tables.specs.Branches.{vertex_in, next_step_at}
 use Rattle.configuration_model.specs.Groups.{vertices_after}
 
 -- the vertices of all symbols of a word, after a state
@@ -23,10 +23,10 @@ IsBeforeLast walk inner = ((walk ≡ []) × (inner ≡ [])) ⊎ ((last : Symbol)
 -- the vertices of a word, each with the next one
 pub record AreStepsAlong (a : SymbolAutomaton) (word : List Symbol) (steps : List Step) : Type 0 where
   pub vertices : map vertex_in steps ≡ vertices_on_word a 0 word
-  pub follows : (k : ℕ) → k < length word → next_at steps k ≡ Some (place_after (length word) k)
+  pub follows : (k : ℕ) → k < length word → next_step_at steps k ≡ Some (place_after (length word) k)
 
 -- the vertices of a walk before its end, each with the next one
 pub record IsWalkBranch (a : SymbolAutomaton) (walk : List Symbol) (dest : ℕ) (branch : Branch) : Type 0 where
   pub dest_is : branch.dest ≡ dest
   pub vertices : map vertex_in branch.steps ≡ vertices_after a 0 walk
-  pub follows : (k : ℕ) → k < length branch.steps → next_at branch.steps k ≡ Some (place_after (length branch.steps) k)
+  pub follows : (k : ℕ) → k < length branch.steps → next_step_at branch.steps k ≡ Some (place_after (length branch.steps) k)

@@ -10,9 +10,8 @@ use Rattle.merlin_model.specs.Assignments.{AreAllEnds}
 use Rattle.merlin_model.proofs.Members.{in_from, in_to, all_in}
 use Rattle.merlin_model.proofs.Ascending.{ascending-one}
 use Rattle.topology.specs.Symbols.{network_symbols}
-use Rattle.rules_model.specs.Products.{Vertex, loc_of, function_place, Group}
+use Rattle.rules_model.specs.Products.{Vertex, loc_of, function_place, Group, IsBefore}
 use Rattle.rules_model.specs.Tables.{TagKey, IsBelow, IsBelowKey, IsTagKey}
-use Rattle.product_graph.specs.Products.{IsBefore}
 use Rattle.path_automaton.proofs.Building.{get-map}
 use Rattle.policy_check.specs.Checked.{CheckedPolicy}
 use Rattle.configuration_model.specs.Groups.{AreGroups}

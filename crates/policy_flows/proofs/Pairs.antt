@@ -3,13 +3,13 @@ use Rattle.std.proofs.Common.{◌≡◌, ◌≢◌, ◌⊎◌, inl, inr, ◌↔�
 use Rattle.merlin_model.specs.Networks.{Network, IsHost, Pairwise, directed_links}
 use Rattle.merlin_model.specs.Words.{at}
 use Rattle.merlin_model.proofs.Members.{In, in_from, in_to, in_append}
-use Rattle.rules_model.specs.Products.{SymbolAutomaton, Vertex, loc_of, start_of, IsLast, LeadsTo, LeadsToEnd, IsOnWayBetween, function_place}
+use Rattle.rules_model.specs.Products.{SymbolAutomaton, Vertex, loc_of, start_of, IsLast, LeadsTo, LeadsToEnd, IsOnWayBetween, function_place, IsBefore, IsJoined}
 use Rattle.rules_model.proofs.Pieces.{all-from}
 use Rattle.product_graph.specs.declared.span.Product.{Product as ListedProduct}
 use Rattle.product_graph.specs.declared.span.Vertex.{Vertex as ListedVertex}
 use Rattle.product_graph.specs.declared.span.Span2.TheVariants.{Pair}
-use Rattle.product_graph.specs.Products.{vertex_of, vertices_of, StandsIn, IsProduct as IsListedProduct, IsTrimmed as IsListedTrimmed}
-use Rattle.cutoff_program.specs.Products.{Product, IsBefore, IsProduct, IsTrimmed, IsJoined, loc_at, edge_of}
+use Rattle.product_graph.specs.Products.{vertex_of, vertices_of, StandsIn, IsProduct, IsTrimmed}
+use Rattle.cutoff_program.specs.Products.{Product, IsProductOfHosts, IsTrimmedProduct, loc_at, edge_of}
 use Rattle.policy_flows.specs.Layouts.{IsFlowBetween}
 use Rattle.policy_flows.specs.Edges.{link_place, loc_in, edge_in, flow_over}
 
@@ -48,7 +48,7 @@ module _ (net : Network) (a : SymbolAutomaton) (s d : ℕ) (product : ListedProd
   way-in : (v : Vertex) → IsOnWayBetween net a s d v → StandsIn net a (Pair s d) v
   way-in v w = (s, (host, refl), w)
 
-  module _ (t : IsListedTrimmed net a (Pair s d) product) where
+  module _ (t : IsTrimmed net a (Pair s d) product) where
     is-start : (v : Vertex) → In v t.first → v ≡ start
     is-start v i = let h = ((t.first_are v).0 (in_to t.first v i)).0 in h.2 ∙ ap (start_of a) h.1.1
 
@@ -81,7 +81,7 @@ module _ (net : Network) (a : SymbolAutomaton) (s d : ℕ) (product : ListedProd
         by [] h = inl (sym h)
         by (x ∷ path) h = inr (in_from t.inner v ((t.inner_are v).1 (last-inside net a x v path h.0.inside h.1, way-in v w)))
 
-    trimmed : IsTrimmed net a s d paired
+    trimmed : IsTrimmedProduct net a s d paired
     trimmed = record {
       inner = t.inner;
       state = t.state;
@@ -95,7 +95,7 @@ module _ (net : Network) (a : SymbolAutomaton) (s d : ℕ) (product : ListedProd
       in_order = t.edges_ascend;
     }
 
-  pub paired-is : IsListedProduct net a (Pair s d) product → IsProduct net a s d paired
+  pub paired-is : IsProduct net a (Pair s d) product → IsProductOfHosts net a s d paired
   paired-is (inl cut) = inl (record { none = λ us. cut.none s us (host, refl); vertices = ap (map vertex_of) cut.vertices; edges = cut.edges })
   paired-is (inr t) = inr (trimmed t)
 
@@ -121,7 +121,7 @@ map-count f (x ∷ xs) = ap suc (map-count f xs)
 edge-same : (net : Network) (vs : List ListedVertex) (e : ℕ × ℕ) → edge_in (directed_links net) vs e ≡ edge_of net (map vertex_of vs) e
 edge-same net vs e = λ i. record { from = e.0; to = e.1; crosses = link_place (directed_links net) (loc-same vs e.0 i) (loc-same vs e.1 i) }
 
-pub flow-between : (net : Network) (a : SymbolAutomaton) (s d rate : ℕ) (product : ListedProduct) → IsHost net s → IsListedProduct net a (Pair s d) product → IsFlowBetween net a rate s d (flow_over (directed_links net) product rate).flow (flow_over (directed_links net) product rate).symbols
+pub flow-between : (net : Network) (a : SymbolAutomaton) (s d rate : ℕ) (product : ListedProduct) → IsHost net s → IsProduct net a (Pair s d) product → IsFlowBetween net a rate s d (flow_over (directed_links net) product rate).flow (flow_over (directed_links net) product rate).symbols
 flow-between net a s d rate product host is = record {
   product = paired net a s d product host;
   is_product = paired-is net a s d product host is;

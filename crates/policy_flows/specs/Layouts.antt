@@ -15,7 +15,7 @@ use Rattle.cutoff_program.specs.declared.flow.FlowEdge.{FlowEdge}
 use Rattle.cutoff_program.specs.declared.flow.Flow.{Flow}
 use Rattle.cutoff_program.specs.declared.flow.Problem.{Problem}
 use Rattle.cutoff_program.specs.Flows.{cost_over}
-use Rattle.cutoff_program.specs.Products.{Product, IsProduct, flow_of}
+use Rattle.cutoff_program.specs.Products.{Product, IsProductOfHosts, flow_of}
 use Rattle.policy_flows.specs.declared.limits.TheConstants.{MAX_PRODUCT_VERTICES, MAX_PRODUCT_EDGES}
 
 -- What of each statement comes into its flow.
@@ -36,7 +36,7 @@ statement_parts net automata rates = record {
 -- the flow is the product between two hosts with a rate, and these are the symbols of the product's vertices
 pub record IsFlowBetween (net : Network) (a : SymbolAutomaton) (rate src dst : ℕ) (flow : Flow) (symbols : List Symbol) : Type 0 where
   pub product : Product
-  pub is_product : IsProduct net a src dst product
+  pub is_product : IsProductOfHosts net a src dst product
   pub is : flow ≡ flow_of net rate product
   pub symbols_are : symbols ≡ map (λ v. v.symbol) product.vertices
 

@@ -16,7 +16,7 @@ use Rattle.policy_expansion.specs.declared.policy.ExpansionFault.TheVariants as 
 use Rattle.policy_expansion.specs.Expansion.{expansion}
 use Rattle.policy_parser.specs.declared.fault.PolicyFault.{PolicyFault}
 use Rattle.policy_parser.specs.declared.fault.PolicyFault.TheVariants.{BadByte, BadNumber, Syntax, DuplicateSet, MixedSet, UnknownSet, TooManyStatements, DuplicateId, OutOfMemory}
-use Rattle.policy_parser.specs.Policies.{IsWritten, IsSyntaxFault, IsNotExpanded, IsReading, AreOne, of_tokens, of_expansion, place_of}
+use Rattle.policy_parser.specs.Policies.{IsWritten, IsSyntaxFault, IsNotExpanded, IsReading, AreOneReading, of_tokens, of_expansion, place_of}
 
 abbrev answer : Result Policy ExpansionFault → Result Policy PolicyFault
 answer (Ok policy) = Ok policy
@@ -47,7 +47,7 @@ stage text (Err OutOfMemory) p = nowhere refl
 faulty : (text : List ℕ) (r : Result Policy PolicyFault) (f : TokenFault) (ts : List Token) → IsTokenFault text f → r ≡ Err (of_tokens f) → AreTokens text ts → r ≡ Err OutOfMemory
 faulty text r f ts p e c = e ∙ ap (λ g. (let x : Result Policy PolicyFault = Err (of_tokens g) in x)) (tokens_or_fault text ts f c p)
 
-one_token_fault : (text : List ℕ) (r s : Result Policy PolicyFault) (f g : TokenFault) → r ≡ Err (of_tokens f) → s ≡ Err (of_tokens g) → (f ≡ tokens.OutOfMemory) ⊎ ((g ≡ tokens.OutOfMemory) ⊎ (f ≡ g)) → AreOne r s
+one_token_fault : (text : List ℕ) (r s : Result Policy PolicyFault) (f g : TokenFault) → r ≡ Err (of_tokens f) → s ≡ Err (of_tokens g) → (f ≡ tokens.OutOfMemory) ⊎ ((g ≡ tokens.OutOfMemory) ⊎ (f ≡ g)) → AreOneReading r s
 one_token_fault text r s f g e d (inl h) = inl (e ∙ ap (λ x. (let y : Result Policy PolicyFault = Err (of_tokens x) in y)) h)
 one_token_fault text r s f g e d (inr (inl h)) = inr (inl (d ∙ ap (λ x. (let y : Result Policy PolicyFault = Err (of_tokens x) in y)) h))
 one_token_fault text r s f g e d (inr (inr h)) = inr (inr (e ∙ ap (λ x. (let y : Result Policy PolicyFault = Err (of_tokens x) in y)) h ∙ sym d))
@@ -69,7 +69,7 @@ one_written text v w p q =
     let same : q.tokens ≡ p.tokens = tokens_once text q.tokens p.tokens q.cut p.cut in
     one_policy (lexemes text p.tokens) v w p.stands (subst (λ ts. StandsFor (lexemes text ts) w) same q.stands)
 
-one_stage : (text : List ℕ) (r s : Result Policy PolicyFault) → Stage text r → Stage text s → AreOne r s
+one_stage : (text : List ℕ) (r s : Result Policy PolicyFault) → Stage text r → Stage text s → AreOneReading r s
 one_stage text r s (nowhere e) q = inl e
 one_stage text r s p (nowhere d) = inr (inl d)
 one_stage text r s (at_tokens f p e) (at_tokens g q d) = one_token_fault text r s f g e d (one_fault text f g p q)
@@ -82,5 +82,5 @@ one_stage text r s (at_syntax at p e) (at_end w q d) = absurd (no_syntax text at
 one_stage text r s (at_end w p e) (at_syntax at q d) = absurd (no_syntax text at w q p)
 one_stage text r s (at_end v p e) (at_end w q d) = inr (inr (e ∙ ap (λ x. answer (expansion x)) (one_written text v w p q) ∙ sym d))
 
-pub one_reading : (text : List ℕ) (r s : Result Policy PolicyFault) → IsReading text r → IsReading text s → AreOne r s
+pub one_reading : (text : List ℕ) (r s : Result Policy PolicyFault) → IsReading text r → IsReading text s → AreOneReading r s
 one_reading text r s p q = one_stage text r s (stage text r p) (stage text s q)

@@ -14,7 +14,7 @@ use Rattle.merlin_text.proofs.Cuts.{tokens_once, tokens_or_fault, one_fault}
 use Rattle.policy_grammar.specs.Lexemes.{Lexeme, IsSpelled, lexeme, lexemes}
 use Rattle.policy_parser.specs.declared.fault.PolicyFault.{PolicyFault}
 use Rattle.policy_parser.specs.declared.fault.PolicyFault.TheVariants.{BadByte, BadNumber, Syntax, DuplicateSet, MixedSet, UnknownSet, TooManyStatements, DuplicateId, OutOfMemory}
-use Rattle.policy_parser.specs.Policies.{AreOne, of_tokens, place_of}
+use Rattle.policy_parser.specs.Policies.{AreOneReading, of_tokens, place_of}
 use Rattle.policy_parser.specs.PredicateTexts.{StandForPredicate, BeginPredicate, IsPredicateFaultAt, IsPredicateText, IsPredicateSyntaxFault, IsPredicateRead, IsPredicateReading, IsRefusedPredicate}
 use Rattle.policy_parser.specs.Readers.{WholeText, whole_predicate, run_text, first_pred}
 use Rattle.policy_parser.proofs.PredicateTexts.{complete, fault}
@@ -126,7 +126,7 @@ failed f = Err (of_tokens f)
 faulty : (text : List ℕ) (r : Result Pred PolicyFault) (f : TokenFault) (ts : List Token) → IsTokenFault text f → r ≡ Err (of_tokens f) → AreTokens text ts → r ≡ Err OutOfMemory
 faulty text r f ts p e c = e ∙ ap failed (tokens_or_fault text ts f c p)
 
-one_token_fault : (r s : Result Pred PolicyFault) (f g : TokenFault) → r ≡ Err (of_tokens f) → s ≡ Err (of_tokens g) → (f ≡ tokens.OutOfMemory) ⊎ ((g ≡ tokens.OutOfMemory) ⊎ (f ≡ g)) → AreOne r s
+one_token_fault : (r s : Result Pred PolicyFault) (f g : TokenFault) → r ≡ Err (of_tokens f) → s ≡ Err (of_tokens g) → (f ≡ tokens.OutOfMemory) ⊎ ((g ≡ tokens.OutOfMemory) ⊎ (f ≡ g)) → AreOneReading r s
 one_token_fault r s f g e d (inl h) = inl (e ∙ ap failed h)
 one_token_fault r s f g e d (inr (inl h)) = inr (inl (d ∙ ap failed h))
 one_token_fault r s f g e d (inr (inr h)) = inr (inr (e ∙ ap failed h ∙ sym d))
@@ -154,7 +154,7 @@ one_predicate text v w p q =
     let same : q.tokens ≡ p.tokens = tokens_once text q.tokens p.tokens q.cut p.cut in
     whole_inj (ok_inj (sym (complete _ v p.stands) ∙ complete _ w (subst (λ ts. StandForPredicate (lexemes text ts) w) same q.stands)))
 
-one_stage : (text : List ℕ) (r s : Result Pred PolicyFault) → Stage text r → Stage text s → AreOne r s
+one_stage : (text : List ℕ) (r s : Result Pred PolicyFault) → Stage text r → Stage text s → AreOneReading r s
 one_stage text r s (nowhere e) q = inl e
 one_stage text r s p (nowhere d) = inr (inl d)
 one_stage text r s (at_tokens f p e) (at_tokens g q d) = one_token_fault r s f g e d (one_fault text f g p q)
@@ -167,5 +167,5 @@ one_stage text r s (at_syntax at p e) (at_end w q d) = absurd (no_syntax text at
 one_stage text r s (at_end w p e) (at_syntax at q d) = absurd (no_syntax text at w q p)
 one_stage text r s (at_end v p e) (at_end w q d) = inr (inr (e ∙ ap (λ x. (let y : Result Pred PolicyFault = Ok x in y)) (one_predicate text v w p q) ∙ sym d))
 
-pub one_reading : (text : List ℕ) (r s : Result Pred PolicyFault) → IsPredicateReading text r → IsPredicateReading text s → AreOne r s
+pub one_reading : (text : List ℕ) (r s : Result Pred PolicyFault) → IsPredicateReading text r → IsPredicateReading text s → AreOneReading r s
 one_reading text r s p q = one_stage text r s (stage text r p) (stage text s q)

@@ -101,5 +101,5 @@ of_expansion (expansion_faults.DuplicateId id) = DuplicateId id
 of_expansion expansion_faults.OutOfMemory = OutOfMemory
 
 -- two readings are one, unless memory runs out in one of them
-abbrev pub AreOne : {X : Type 0} → Result X PolicyFault → Result X PolicyFault → Type 0
-AreOne r s = (r ≡ Err OutOfMemory) ⊎ ((s ≡ Err OutOfMemory) ⊎ (r ≡ s))
+abbrev pub AreOneReading : {X : Type 0} → Result X PolicyFault → Result X PolicyFault → Type 0
+AreOneReading r s = (r ≡ Err OutOfMemory) ⊎ ((s ≡ Err OutOfMemory) ⊎ (r ≡ s))

@@ -3,7 +3,7 @@
 ghost use Rattle.std.specs.Prelude.{◌≡◌, ℕ, IfOk, IfErr, Result};
 ghost use Rattle.policy_expansion.specs.declared.policy.Policy.{Policy};
 ghost use Rattle.policy_parser.specs.declared.fault.PolicyFault.{PolicyFault};
-ghost use Rattle.policy_parser.specs.Policies.{IsWritten, IsRead, IsRefused, IsReading, AreOne, IsParsed, place_of as place};
+ghost use Rattle.policy_parser.specs.Policies.{IsWritten, IsRead, IsRefused, IsReading, AreOneReading, IsParsed, place_of as place};
 
 use crate::fault::{PolicyFault, ReadError};
 use crate::reading::read_policy;
@@ -19,7 +19,7 @@ use std::alloc::Global;
 pub fn parse(alloc: Global, bytes: &[u8]) -> Result<Policy, PolicyFault>
     ensures reading { IsReading bytes.now result }
     ensures only { (other : Result Policy PolicyFault) →
-        IsReading bytes.now other → AreOne result other }
+        IsReading bytes.now other → AreOneReading result other }
     ensures parsed { IfOk result IsParsed }
 {
     reading_of(alloc, bytes)

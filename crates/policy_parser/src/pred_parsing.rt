@@ -4,7 +4,7 @@ ghost use Rattle.std.specs.Prelude.{◌≡◌, IfOk, IfErr, Result};
 ghost use Rattle.merlin_model.specs.declared.policy.Pred.{Pred};
 ghost use Rattle.merlin_model.specs.Predicates.{IsPred};
 ghost use Rattle.policy_parser.specs.declared.fault.PolicyFault.{PolicyFault};
-ghost use Rattle.policy_parser.specs.Policies.{AreOne};
+ghost use Rattle.policy_parser.specs.Policies.{AreOneReading};
 ghost use Rattle.policy_parser.specs.PredicateTexts.{IsPredicateText, IsPredicateRead, IsPredicateReading, IsRefusedPredicate};
 ghost use Rattle.policy_parser.specs.Readers.{ReadsPredicate, first_pred};
 
@@ -24,7 +24,7 @@ pub fn parse_pred(alloc: Global, bytes: &[u8]) -> Result<Pred, PolicyFault>
     ensures ok { IfOk result (IsPredicateText bytes.now) }
     ensures err { IfErr result (λ fault. IsRefusedPredicate fault bytes.now) }
     ensures only { (other : Result Pred PolicyFault) →
-        IsPredicateReading bytes.now other → AreOne result other }
+        IsPredicateReading bytes.now other → AreOneReading result other }
     ensures formed { IfOk result IsPred }
 {
     match scan(bytes) {

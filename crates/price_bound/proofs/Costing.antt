@@ -19,7 +19,7 @@ use Rattle.price_candidates.specs.Leaves.{flow_weights, IsPotential}
 use Rattle.price_candidates.specs.Tried.{AreLeastSums, IsReached, IsLeastPath, capped, missing, only}
 use Rattle.price_candidates.proofs.Spreading.{path-small, least-reached, least-unreached}
 use Rattle.graph_search.proofs.Places.{take-next}
-use Rattle.price_bound.specs.declared.flow_graph.Step.{Step}
+use Rattle.price_bound.specs.declared.flow_graph.FlowStep.{FlowStep}
 use Rattle.price_bound.specs.declared.measure.Measure.{Measure}
 use Rattle.price_bound.specs.declared.measure.Measure.TheVariants.{Cost}
 use Rattle.price_bound.specs.declared.spread.Spread.{Spread}
@@ -40,14 +40,14 @@ capped-most most (Some d) = grind (arith, clamps)
 
 -- The variables of a way back, in the one order or the other.
 
-along-more : (steps : List Step) (done : List ℕ) (k : ℕ) → variables_along steps (done ++ k ∷ []) ≡ variables_along steps done ++ variable_of_step (slice_get steps k) ∷ []
+along-more : (steps : List FlowStep) (done : List ℕ) (k : ℕ) → variables_along steps (done ++ k ∷ []) ≡ variables_along steps done ++ variable_of_step (slice_get steps k) ∷ []
 along-more steps [] k = refl
 along-more steps (x ∷ done) k = ap (λ l. variable_of_step (slice_get steps x) ∷ l) (along-more steps done k)
 
-turned : (steps : List Step) (k : ℕ) (ks : List ℕ) → variables_along steps (reverse (k ∷ ks)) ≡ variables_along steps (reverse ks) ++ variable_of_step (slice_get steps k) ∷ []
+turned : (steps : List FlowStep) (k : ℕ) (ks : List ℕ) → variables_along steps (reverse (k ∷ ks)) ≡ variables_along steps (reverse ks) ++ variable_of_step (slice_get steps k) ∷ []
 turned steps k ks = ap (variables_along steps) (reverse-cons k ks) ∙ along-more steps (reverse ks) k
 
-to-turned : (steps : List Step) (ks : List ℕ) (x : ℕ) → In x (variables_along steps ks) → In x (variables_along steps (reverse ks))
+to-turned : (steps : List FlowStep) (ks : List ℕ) (x : ℕ) → In x (variables_along steps ks) → In x (variables_along steps (reverse ks))
 to-turned steps [] x i = i
 to-turned steps (k ∷ ks) x i = subst (In x) (sym (turned steps k ks)) (by i (to-turned steps ks x))
   where
@@ -55,7 +55,7 @@ to-turned steps (k ∷ ks) x i = subst (In x) (sym (turned steps k ks)) (by i (t
     by (inl e) ih = in_append-right (variables_along steps (reverse ks)) (variable_of_step (slice_get steps k) ∷ []) x (inl e)
     by (inr i) ih = in_append-left (variables_along steps (reverse ks)) (variable_of_step (slice_get steps k) ∷ []) x (ih i)
 
-from-turned : (steps : List Step) (ks : List ℕ) (x : ℕ) → In x (variables_along steps (reverse ks)) → In x (variables_along steps ks)
+from-turned : (steps : List FlowStep) (ks : List ℕ) (x : ℕ) → In x (variables_along steps (reverse ks)) → In x (variables_along steps ks)
 from-turned steps [] x i = i
 from-turned steps (k ∷ ks) x i = by (in_append (variables_along steps (reverse ks)) (variable_of_step (slice_get steps k) ∷ []) x (subst (In x) (turned steps k ks) i)) (from-turned steps ks x)
   where

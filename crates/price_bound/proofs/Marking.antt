@@ -5,7 +5,7 @@ use Rattle.merlin_model.proofs.Members.{In, in_from, in_to, in_append, in_append
 use Rattle.std.proofs.lemmas.Option.{slice_get-get_or}
 use Rattle.std.specs.List.{AllByRecursion}
 use Rattle.graph_search.proofs.Places.{all-get}
-use Rattle.price_bound.specs.declared.flow_graph.Step.{Step}
+use Rattle.price_bound.specs.declared.flow_graph.FlowStep.{FlowStep}
 use Rattle.price_bound.specs.Spreads.{IsMarked, variable_of_step, variables_along}
 use Rattle.price_bound.proofs.Permitting.{no_step}
 
@@ -48,15 +48,15 @@ one-marked ks old new k h marked = record {
 
 -- The steps of a way back.
 
-along-more : (steps : List Step) (done : List ℕ) (k : ℕ) → variables_along steps (done ++ k ∷ []) ≡ variables_along steps done ++ variable_of_step (slice_get steps k) ∷ []
+along-more : (steps : List FlowStep) (done : List ℕ) (k : ℕ) → variables_along steps (done ++ k ∷ []) ≡ variables_along steps done ++ variable_of_step (slice_get steps k) ∷ []
 along-more steps [] k = refl
 along-more steps (x ∷ done) k = ap (λ l. variable_of_step (slice_get steps x) ∷ l) (along-more steps done k)
 
-pub step-marked : (steps : List Step) (done : List ℕ) (old new after : List Bool) (k : ℕ) → k < length steps → AllByRecursion (λ s. s.variable < length old) steps → IsMarked (variables_along steps done) old new → after ≡ slice_set new (get_or steps k no_step).variable true →
+pub step-marked : (steps : List FlowStep) (done : List ℕ) (old new after : List Bool) (k : ℕ) → k < length steps → AllByRecursion (λ s. s.variable < length old) steps → IsMarked (variables_along steps done) old new → after ≡ slice_set new (get_or steps k no_step).variable true →
     IsMarked (variables_along steps (done ++ k ∷ [])) old after
 step-marked steps done old new after k h within marked is =
     let s = slice_get-get_or steps k no_step h in
-    let low = all-get (λ (s : Step). s.variable < length old) steps k (get_or steps k no_step) within s in
+    let low = all-get (λ (s : FlowStep). s.variable < length old) steps k (get_or steps k no_step) within s in
     let more = one-marked (variables_along steps done) old new (get_or steps k no_step).variable low marked in
     let list = along-more steps done k ∙ ap (λ o. variables_along steps done ++ variable_of_step o ∷ []) s in
     subst (λ l. IsMarked l old after) (sym list) (subst (IsMarked (variables_along steps done ++ (get_or steps k no_step).variable ∷ []) old) (sym is) more)

@@ -9,7 +9,7 @@ use Rattle.cutoff_program.proofs.Lists.{all_so}
 use Rattle.cutoff_program.proofs.Variables.{rates-small}
 use Rattle.graph_search.specs.Graphs.{cost_of_all}
 use Rattle.graph_search.proofs.Places.{all-get}
-use Rattle.price_bound.specs.declared.flow_graph.Step.{Step}
+use Rattle.price_bound.specs.declared.flow_graph.FlowStep.{FlowStep}
 use Rattle.price_bound.specs.declared.measure.Measure.{Measure}
 use Rattle.price_bound.specs.declared.measure.Measure.TheVariants.{Cost, Rate}
 use Rattle.price_bound.specs.Asked.{measured}
@@ -25,9 +25,9 @@ measured-small problem (Rate link) k v is e = by (is_on link v.edge.crosses) (al
     by true h = h
     by false h = omega arith
 
-pub costs-within : (problem : Problem) (cutoff : Option Value) (box : List (Option Bool)) (n : ℕ) (measure : Measure) (steps : List Step) → IsProblem problem → ArePermittedSteps problem cutoff box n (measured problem measure) steps → cost_of_all (edges_in steps) < 2 ^ 120
+pub costs-within : (problem : Problem) (cutoff : Option Value) (box : List (Option Bool)) (n : ℕ) (measure : Measure) (steps : List FlowStep) → IsProblem problem → ArePermittedSteps problem cutoff box n (measured problem measure) steps → cost_of_all (edges_in steps) < 2 ^ 120
 costs-within problem cutoff box n measure steps is are =
-    let each = all_so (IsPermittedStep problem cutoff box n (measured problem measure)) (λ s. s.edge.cost ≤ 10 ^ 9) steps (λ s p. let c = ap (λ (x : Step). x.edge.cost) p.is in let m = measured-small problem measure s.variable p.v is p.stands in omega arith) are.each in
+    let each = all_so (IsPermittedStep problem cutoff box n (measured problem measure)) (λ s. s.edge.cost ≤ 10 ^ 9) steps (λ s p. let c = ap (λ (x : FlowStep). x.edge.cost) p.is in let m = measured-small problem measure s.variable p.v is p.stands in omega arith) are.each in
     let all = costs-small (10 ^ 9) steps each in
     let few = are.few in
     let most = is.few_variables in

@@ -8,33 +8,33 @@ use Rattle.merlin_model.specs.Networks.{AreDifferent}
 use Rattle.cutoff_program.specs.declared.flow.Problem.{Problem}
 use Rattle.cutoff_program.specs.declared.flow.Variable.{Variable}
 use Rattle.cutoff_program.specs.Flows.{variables_of}
-use Rattle.cutoff_program.specs.Trails.{IsTrailOf, IsPath as IsPathOf, sum_along, comes_to, with_vertex}
+use Rattle.cutoff_program.specs.Trails.{IsTrailOf, IsPath, sum_along, comes_to, with_vertex}
 use Rattle.cutoff_program.specs.Easy.{MayIn}
 use Rattle.cutoff_program.proofs.Shortening.{comes_to-cons}
 use Rattle.cutoff_program.proofs.Following.{sum-cons}
 use Rattle.graph_search.specs.declared.graph.Edge.{Edge}
 use Rattle.graph_search.specs.declared.paths.Potentials.{Potentials}
-use Rattle.graph_search.specs.Graphs.{known_at, IsPath, GoesBack, ArePotentials, cost_of_edge, cost_of_path, cost_of_all}
+use Rattle.graph_search.specs.Graphs.{known_at, IsEdgePath, GoesBack, ArePotentials, cost_of_edge, cost_of_path, cost_of_all}
 use Rattle.graph_search.proofs.Places.{all-get, some-same, none-some}
 use Rattle.price_candidates.specs.Tried.{AreLeastSums}
 use Rattle.cutoff_program.proofs.Lists.{all_so, all_both}
 use Rattle.cutoff_program.proofs.Points.{different-both}
 use Rattle.price_candidates.proofs.Spreading.{path-small}
 use Rattle.price_bound.proofs.WayBack.{reverse-cons, one-way}
-use Rattle.price_bound.specs.declared.flow_graph.Step.{Step}
+use Rattle.price_bound.specs.declared.flow_graph.FlowStep.{FlowStep}
 use Rattle.price_bound.specs.Steps.{step_of, edges_in}
 use Rattle.price_bound.specs.Graphs.{IsPermittedStep, ArePermittedSteps}
 use Rattle.price_bound.specs.Spreads.{variable_of_step, variables_along}
 
 -- the step whose edge stands there
-pub step-at : (steps : List Step) (j : ℕ) (e : Edge) → slice_get (edges_in steps) j ≡ Some e → (s : Step) × (slice_get steps j ≡ Some s) × (s.edge ≡ e)
+pub step-at : (steps : List FlowStep) (j : ℕ) (e : Edge) → slice_get (edges_in steps) j ≡ Some e → (s : FlowStep) × (slice_get steps j ≡ Some s) × (s.edge ≡ e)
 step-at [] j e h = absurd (none-some h)
 step-at (s ∷ steps) zero e h = (s, refl, some-same h)
 step-at (s ∷ steps) (suc j) e h = step-at steps j e h
 
-pub edge-at : (steps : List Step) (j : ℕ) (s : Step) → slice_get steps j ≡ Some s → slice_get (edges_in steps) j ≡ Some s.edge
+pub edge-at : (steps : List FlowStep) (j : ℕ) (s : FlowStep) → slice_get steps j ≡ Some s → slice_get (edges_in steps) j ≡ Some s.edge
 edge-at [] j s h = absurd (none-some h)
-edge-at (t ∷ steps) zero s h = ap (λ (x : Step). Some x.edge) (some-same h)
+edge-at (t ∷ steps) zero s h = ap (λ (x : FlowStep). Some x.edge) (some-same h)
 edge-at (t ∷ steps) (suc j) s h = edge-at steps j s h
 
 cost-at : (edges : List Edge) (j : ℕ) (e : Edge) → slice_get edges j ≡ Some e → cost_of_edge edges j ≡ e.cost
@@ -43,7 +43,7 @@ cost-at (d ∷ edges) zero e h = ap (λ (x : Edge). x.cost) (some-same h)
 cost-at (d ∷ edges) (suc j) e h = cost-at edges j e h
 
 -- all edges together cost no more than the greatest term for each
-pub costs-small : (most : ℕ) (steps : List Step) → AllByRecursion (λ s. s.edge.cost ≤ most) steps → cost_of_all (edges_in steps) ≤ length steps * most
+pub costs-small : (most : ℕ) (steps : List FlowStep) → AllByRecursion (λ s. s.edge.cost ≤ most) steps → cost_of_all (edges_in steps) ≤ length steps * most
 costs-small most [] all = omega arith
 costs-small most (s ∷ steps) all =
     let ih = costs-small most steps all.1 in
@@ -52,7 +52,7 @@ costs-small most (s ∷ steps) all =
     let h = all.0 in
     omega arith
 
-module _ (problem : Problem) (cutoff : Option Value) (box : List (Option Bool)) (n : ℕ) (f : Variable → ℕ) (steps : List Step) (are : ArePermittedSteps problem cutoff box n f steps) where
+module _ (problem : Problem) (cutoff : Option Value) (box : List (Option Bool)) (n : ℕ) (f : Variable → ℕ) (steps : List FlowStep) (are : ArePermittedSteps problem cutoff box n f steps) where
   pub record HasStep (j : ℕ) (e : Edge) : Type 0 where
     pub k : ℕ
     pub v : Variable
@@ -75,24 +75,24 @@ module _ (problem : Problem) (cutoff : Option Value) (box : List (Option Bool)) 
         stands = p.stands;
         of = p.of;
         may = p.may;
-        from = sym (ap (λ (x : Step). x.edge.from) p.is) ∙ ap (λ (x : Edge). x.from) s.2;
-        to = sym (ap (λ (x : Step). x.edge.to) p.is) ∙ ap (λ (x : Edge). x.to) s.2;
-        cost = sym (ap (λ (x : Edge). x.cost) s.2) ∙ ap (λ (x : Step). x.edge.cost) p.is;
+        from = sym (ap (λ (x : FlowStep). x.edge.from) p.is) ∙ ap (λ (x : Edge). x.from) s.2;
+        to = sym (ap (λ (x : FlowStep). x.edge.to) p.is) ∙ ap (λ (x : Edge). x.to) s.2;
+        cost = sym (ap (λ (x : Edge). x.cost) s.2) ∙ ap (λ (x : FlowStep). x.edge.cost) p.is;
       }
 
   -- a path through the graph is a trail of the flow
-  pub trail-of-path : (js : List ℕ) (u v : ℕ) → IsPath (edges_in steps) u js v → IsTrailOf (variables_of problem) n (variables_along steps js) u v
+  pub trail-of-path : (js : List ℕ) (u v : ℕ) → IsEdgePath (edges_in steps) u js v → IsTrailOf (variables_of problem) n (variables_along steps js) u v
   trail-of-path [] u v p = p
   trail-of-path (j ∷ js) u v p =
       let s = has-step j p.0 p.1 in
       let rest = trail-of-path js p.0.to v p.3 in
       (s.v, ap (slice_get (variables_of problem)) s.number ∙ s.stands, s.of, s.from ∙ p.2, subst (λ x. IsTrailOf (variables_of problem) n (variables_along steps js) x v) (sym s.to) rest)
 
-  pub may-of-path : (js : List ℕ) (u v : ℕ) → IsPath (edges_in steps) u js v → AllByRecursion (MayIn problem cutoff box) (variables_along steps js)
+  pub may-of-path : (js : List ℕ) (u v : ℕ) → IsEdgePath (edges_in steps) u js v → AllByRecursion (MayIn problem cutoff box) (variables_along steps js)
   may-of-path [] u v p = tt
   may-of-path (j ∷ js) u v p = let s = has-step j p.0 p.1 in (subst (MayIn problem cutoff box) (sym s.number) s.may, may-of-path js p.0.to v p.3)
 
-  pub sum-of-path : (js : List ℕ) (u v : ℕ) → IsPath (edges_in steps) u js v → sum_along (variables_of problem) f (variables_along steps js) ≡ cost_of_path (edges_in steps) js
+  pub sum-of-path : (js : List ℕ) (u v : ℕ) → IsEdgePath (edges_in steps) u js v → sum_along (variables_of problem) f (variables_along steps js) ≡ cost_of_path (edges_in steps) js
   sum-of-path [] u v p = refl
   sum-of-path (j ∷ js) u v p =
       let s = has-step j p.0 p.1 in
@@ -106,7 +106,7 @@ module _ (problem : Problem) (cutoff : Option Value) (box : List (Option Bool)) 
   -- and a trail that may be taken is a path through the graph
   pub record HasPathOf (ks : List ℕ) (u v : ℕ) : Type 0 where
     pub js : List ℕ
-    pub path : IsPath (edges_in steps) u js v
+    pub path : IsEdgePath (edges_in steps) u js v
     pub cost : cost_of_path (edges_in steps) js ≡ sum_along (variables_of problem) f ks
 
   pub path-of-trail : (ks : List ℕ) (u v : ℕ) → IsTrailOf (variables_of problem) n ks u v → AllByRecursion (MayIn problem cutoff box) ks → HasPathOf ks u v
@@ -200,7 +200,7 @@ module _ (problem : Problem) (cutoff : Option Value) (box : List (Option Bool)) 
 
   -- What the way back from a vertex gives: a path that may be taken, of the least sum.
   pub record IsFoundPath (v most : ℕ) (path : List ℕ) : Type 0 where
-    pub is_path : IsPathOf (variables_of problem) n path 0 v
+    pub is_path : IsPath (variables_of problem) n path 0 v
     pub allowed : AllByRecursion (MayIn problem cutoff box) path
     pub reached : sum_along (variables_of problem) f path ≡ most
 
@@ -208,7 +208,7 @@ module _ (problem : Problem) (cutoff : Option Value) (box : List (Option Bool)) 
   found-path size p is v most e ks g =
       let r = is.reached v most e in
       let same : r.back ≡ ks = one-way (edges_in steps) p.before 0 r.back ks v r.goes_back g in
-      let path : IsPath (edges_in steps) 0 (reverse ks) v = subst (λ l. IsPath (edges_in steps) 0 (reverse l) v) same r.path in
+      let path : IsEdgePath (edges_in steps) 0 (reverse ks) v = subst (λ l. IsEdgePath (edges_in steps) 0 (reverse l) v) same r.path in
       record {
         is_path = record { steps = trail-of-path (reverse ks) 0 v path; simple = (comes-once p.before ks v g).different };
         allowed = may-of-path (reverse ks) 0 v path;
@@ -224,10 +224,10 @@ module _ (problem : Problem) (cutoff : Option Value) (box : List (Option Bool)) 
       let l : length (k ∷ ks) ≡ suc (length ks) = refl in
       omega arith
 
-  pub way-short : (before : List (Option ℕ)) (ks : List ℕ) (v : ℕ) → GoesBack (edges_in steps) before 0 ks v → IsPath (edges_in steps) 0 (reverse ks) v → length ks ≤ length (variables_of problem)
+  pub way-short : (before : List (Option ℕ)) (ks : List ℕ) (v : ℕ) → GoesBack (edges_in steps) before 0 ks v → IsEdgePath (edges_in steps) 0 (reverse ks) v → length ks ≤ length (variables_of problem)
   way-short before ks v g path =
       let trail = trail-of-path (reverse ks) 0 v path in
-      let is : IsPathOf (variables_of problem) n (variables_along steps (reverse ks)) 0 v = record { steps = trail; simple = (comes-once before ks v g).different } in
+      let is : IsPath (variables_of problem) n (variables_along steps (reverse ks)) 0 v = record { steps = trail; simple = (comes-once before ks v g).different } in
       let small = path-small (variables_of problem) (λ v. 1) 1 n (variables_along steps (reverse ks)) 0 v (λ j w e. omega arith) is in
       let ones = ones-along (variables_along steps (reverse ks)) 0 v trail in
       let a = length-map (reverse ks) (λ j. variable_of_step (slice_get steps j)) in

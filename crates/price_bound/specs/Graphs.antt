@@ -7,13 +7,13 @@ use Rattle.cutoff_program.specs.declared.flow.Flow.{Flow}
 use Rattle.cutoff_program.specs.declared.flow.Variable.{Variable}
 use Rattle.cutoff_program.specs.Flows.{variables_of, last_of}
 use Rattle.cutoff_program.specs.Easy.{MayIn}
-use Rattle.price_bound.specs.declared.flow_graph.Step.{Step}
+use Rattle.price_bound.specs.declared.flow_graph.FlowStep.{FlowStep}
 use Rattle.price_bound.specs.Steps.{step_of}
 use Rattle.price_bound.specs.declared.flow_graph.FlowGraph.{FlowGraph}
 
 module _ (problem : Problem) (cutoff : Option Value) (box : List (Option Bool)) (n : ℕ) (f : Variable → ℕ) where
   -- the step goes along an edge of the flow that may be taken, and costs what that adds
-  pub record IsPermittedStep (step : Step) : Type 0 where
+  pub record IsPermittedStep (step : FlowStep) : Type 0 where
     pub v : Variable
     pub stands : slice_get (variables_of problem) step.variable ≡ Some v
     pub of : v.flow ≡ n
@@ -21,7 +21,7 @@ module _ (problem : Problem) (cutoff : Option Value) (box : List (Option Bool)) 
     pub is : step ≡ step_of f step.variable v
 
   -- the steps of the flow that may be taken, and no others
-  pub record ArePermittedSteps (steps : List Step) : Type 0 where
+  pub record ArePermittedSteps (steps : List FlowStep) : Type 0 where
     pub each : AllByRecursion IsPermittedStep steps
     pub all : (k : ℕ) (v : Variable) → slice_get (variables_of problem) k ≡ Some v → v.flow ≡ n →
         MayIn problem cutoff box k → (j : ℕ) × (slice_get steps j ≡ Some (step_of f k v))

@@ -6,17 +6,17 @@ use Rattle.cutoff_program.specs.declared.flow.Problem.{Problem}
 use Rattle.cutoff_program.specs.declared.flow.Flow.{Flow}
 use Rattle.cutoff_program.specs.declared.flow.Variable.{Variable}
 use Rattle.graph_search.specs.Graphs.{ArePotentials}
-use Rattle.price_bound.specs.declared.flow_graph.Step.{Step}
+use Rattle.price_bound.specs.declared.flow_graph.FlowStep.{FlowStep}
 use Rattle.price_bound.specs.declared.spread.Spread.{Spread}
 use Rattle.price_bound.specs.Steps.{edges_in}
 use Rattle.price_bound.specs.Graphs.{IsPermittedGraph}
 
 -- the variables of the steps with these numbers
-abbrev pub variable_of_step : Option Step → ℕ
+abbrev pub variable_of_step : Option FlowStep → ℕ
 variable_of_step None = 0
 variable_of_step (Some s) = s.variable
 
-abbrev pub variables_along : List Step → List ℕ → List ℕ
+abbrev pub variables_along : List FlowStep → List ℕ → List ℕ
 variables_along steps js = map (λ j. variable_of_step (slice_get steps j)) js
 
 -- least sums from the start of a flow, over the edges that it may take

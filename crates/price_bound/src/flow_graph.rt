@@ -9,7 +9,7 @@ use sqlite_items::Items;
 
 /// An edge of a flow, with the number of its variable.
 #[derive(Clone, Copy)]
-pub struct Step {
+pub struct FlowStep {
     pub variable: usize,
     pub edge: Edge,
 }
@@ -18,7 +18,7 @@ pub struct Step {
 #[derive(Drop)]
 pub struct FlowGraph {
     pub vertices: usize,
-    pub steps: Items<Step>,
+    pub steps: Items<FlowStep>,
     ghost within: { AreEdgesAmong vertices (edges_in steps) } by { Prim.hlevel props },
 }
 

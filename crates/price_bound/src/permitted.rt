@@ -10,7 +10,7 @@ ghost use Rattle.merlin_program.specs.Kept.{variable_at};
 ghost use Rattle.price_bound.specs.Graphs.{IsPermittedGraph};
 ghost use Rattle.price_bound.specs.Steps.{step_of};
 
-use crate::flow_graph::{FlowGraph, Step};
+use crate::flow_graph::{FlowGraph, FlowStep};
 use crate::measure::{Measure, term};
 use cutoff_program::flow::FlowEdge;
 use graph_search::Edge;
@@ -57,7 +57,7 @@ fn is_permitted(
 }
 
 // The step along the edge of a variable, which costs what that adds.
-fn step(program: &MerlinProgram, measure: Measure, variable: usize) -> Step
+fn step(program: &MerlinProgram, measure: Measure, variable: usize) -> FlowStep
     requires { variable < length (variables_of program.now.problem) }
     ensures { let problem = program.now.problem in
         result ≡ step_of (measured problem measure) variable (variable_at problem variable) }
@@ -68,7 +68,7 @@ fn step(program: &MerlinProgram, measure: Measure, variable: usize) -> Step
         crosses: _,
     } = program.edges()[variable].edge;
     let cost = u128::from(term(program, measure, variable));
-    Step {
+    FlowStep {
         variable,
         edge: Edge { from, to, cost },
     }

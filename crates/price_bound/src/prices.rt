@@ -11,7 +11,7 @@ ghost use Rattle.price_bound.specs.Numbers.{AreCosts, AreLinksTried, ArePricesTr
 
 use crate::costs::{Costs, CostsFound, find};
 use crate::leaf::{Priced, leaf};
-use crate::trials::{Tested, by_trials};
+use crate::trials::{TestedCandidate, by_trials};
 use crate::tried::{try_lengths, try_links, try_rows};
 use certificate::Workspace;
 use integer_program::{Fixed, Program, Relaxation, Verdict, is_open, is_solution};
@@ -152,9 +152,9 @@ fn by_candidates(
         return Ok(Verdict::Better(costs.point));
     }
     match by_trials(alloc, program, cutoff, fixed, workspace, prices)? {
-        Tested::Refuting(weights) => Ok(Verdict::Closed(weights)),
-        Tested::Better(point) => Ok(Verdict::Better(point)),
-        Tested::Others(others) => {
+        TestedCandidate::Refuting(weights) => Ok(Verdict::Closed(weights)),
+        TestedCandidate::Better(point) => Ok(Verdict::Better(point)),
+        TestedCandidate::Others(others) => {
             by_links(
                 alloc,
                 program,
@@ -165,7 +165,7 @@ fn by_candidates(
                 Some(others),
             )
         }
-        Tested::Nothing => by_links(alloc, program, cutoff, fixed, workspace, costs, None),
+        TestedCandidate::Nothing => by_links(alloc, program, cutoff, fixed, workspace, costs, None),
     }
 }
 

@@ -20,7 +20,7 @@ use std::alloc::Global;
 
 /// What comes of candidates: weights that refute the box, a neat solution, paths that are none, or nothing.
 #[derive(Drop)]
-pub enum Tested {
+pub enum TestedCandidate {
     Refuting(Items<Weight>),
     Better(Items<bool>),
     Others(Items<bool>),
@@ -71,19 +71,19 @@ fn test_paths(
     cutoff: Option<&Value>,
     fixed: &Fixed,
     taken: &[bool],
-) -> Result<Tested, OutOfMemory>
+) -> Result<TestedCandidate, OutOfMemory>
     requires { IsBoxAsked program.now.problem (option_copied cutoff) fixed.now }
     ensures { let problem = program.now.problem in
         let at = option_copied cutoff.entry in
         IfOk result (IsTested problem at fixed.now) }
 {
     match paths_within(alloc, program, cutoff, fixed, taken)? {
-        None => Ok(Tested::Nothing),
+        None => Ok(TestedCandidate::Nothing),
         Some(point) => {
             if is_solution(program, cutoff, point.as_slice()) {
-                Ok(Tested::Better(point))
+                Ok(TestedCandidate::Better(point))
             } else {
-                Ok(Tested::Others(point))
+                Ok(TestedCandidate::Others(point))
             }
         }
     }
@@ -96,7 +96,7 @@ fn test_weights(
     fixed: &Fixed,
     workspace: &mut Workspace,
     weights: Items<Weight>,
-) -> Tested
+) -> TestedCandidate
     requires asked { IsBoxAsked program.now.problem (option_copied cutoff) fixed.now }
     requires room { workspace.old ≡ length (variables_of program.now.problem) }
     ensures same { workspace.new ≡ workspace.old }
@@ -104,9 +104,9 @@ fn test_weights(
         IsTested program.now.problem at fixed.now result }
 {
     if leaf_refutes(program, cutoff, fixed, workspace, weights.as_slice()) {
-        Tested::Refuting(weights)
+        TestedCandidate::Refuting(weights)
     } else {
-        Tested::Nothing
+        TestedCandidate::Nothing
     }
 }
 
@@ -118,7 +118,7 @@ pub fn by_trials(
     fixed: &Fixed,
     workspace: &mut Workspace,
     prices: &mut LinkPrices,
-) -> Result<Tested, OutOfMemory>
+) -> Result<TestedCandidate, OutOfMemory>
     requires asked { IsBoxAsked program.now.problem (option_copied cutoff) fixed.now }
     requires room { workspace.old ≡ length (variables_of program.now.problem) }
     ensures same { workspace.new ≡ workspace.old }
@@ -129,6 +129,6 @@ pub fn by_trials(
     match try_prices(alloc, program, cutoff, fixed, prices)? {
         Trial::Leaf(weights) => Ok(test_weights(program, cutoff, fixed, workspace, weights)),
         Trial::Paths(taken) => test_paths(alloc, program, cutoff, fixed, taken.as_slice()),
-        Trial::Nothing => Ok(Tested::Nothing),
+        Trial::Nothing => Ok(TestedCandidate::Nothing),
     }
 }

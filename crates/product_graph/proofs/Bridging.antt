@@ -7,12 +7,12 @@ use Rattle.merlin_model.specs.Words.{at, IsSymbol, MayFollow}
 use Rattle.merlin_model.proofs.Members.{in_from}
 use Rattle.path_automaton.specs.Automata.{AutomatonTables, step, number_in}
 use Rattle.path_automaton.proofs.Listed.{number-at}
-use Rattle.rules_model.specs.Products.{SymbolAutomaton, Vertex, start_of, function_place, IsEdge, LeadsTo, LeadsToEnd}
+use Rattle.rules_model.specs.Products.{SymbolAutomaton, Vertex, start_of, function_place, IsEdge, LeadsTo, LeadsToEnd, IsBefore}
 use Rattle.rules_model.proofs.Trees.{host_symbol}
 use Rattle.product_graph.specs.declared.followers.Followers.{Followers}
 use Rattle.product_graph.specs.declared.vertex_set.NumberedVertex.{NumberedVertex}
 use Rattle.product_graph.specs.declared.span.Span2.{Span2}
-use Rattle.product_graph.specs.Products.{automaton_of, dest_of, IsSource, StandsIn, IsBefore}
+use Rattle.product_graph.specs.Products.{automaton_of, dest_of, IsSource, StandsIn}
 use Rattle.product_graph.specs.Inside.{AreRising}
 use Rattle.product_graph.specs.Followers.{IsSymbolBefore, AreOrderedSymbols, follower_numbers, IsFollowerRow, AreFollowersOf}
 use Rattle.product_graph.specs.Numbered.{Ground, ground_of, next_of, GoesOnBy, PassesTo, PassesOut, LeadsOut, IsNumberedBefore, vertex_by}

@@ -2,10 +2,10 @@
 use Rattle.std.proofs.Common.{◌≡◌, ◌≢◌, ◌<◌, ◌≤◌, ◌⊎◌, inl, inr, ◌+◌, ℕ, Bool, true, false, nat_le, List, [], ◌∷◌, ◌++◌, length, get_or, slice_get, Contains, Option, Some, None, append_assoc, cond, refl, sym, ◌∙◌, ap, subst, arith}
 use Rattle.merlin_model.specs.Networks.{AreDifferent}
 use Rattle.path_automaton.specs.Automata.{AutomatonTables, step}
+use Rattle.rules_model.specs.Products.{IsEdgeBefore}
 use Rattle.product_graph.specs.declared.vertex_set.NumberedVertex.{NumberedVertex}
 use Rattle.product_graph.specs.Followers.{follower_numbers}
 use Rattle.product_graph.specs.Numbered.{Ground, next_of, GoesOnBy}
-use Rattle.product_graph.specs.Products.{IsEdgeBefore}
 use Rattle.product_graph.specs.Joining.{IsJoinedNext, KeepsOrder, IsEdgeBy, AreEdgesBy, IsEdgeOut, AreEdgesOut, AreEdgesBelow, lowered_by, IsLeastBelow}
 use Rattle.product_graph.proofs.Lists.{some-same, false-true, below_or_at, lt-or-ge, all-contained, pairwise-get, pairwise-snoc, pairwise-append, get-below, get-contains, contains-none, contains-left, contains-right, contains-either, contains-last, contains-snoc}
 

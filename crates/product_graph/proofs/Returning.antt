@@ -3,11 +3,11 @@ use Rattle.std.proofs.Common.{◌≡◌, ◌<◌, ◌⊎◌, ◌↔◌, inl, inr
 use Rattle.std.proofs.lemmas.List.Sums.{sum_by-cons}
 use Rattle.graph_search.specs.declared.graph.Edge.{Edge}
 use Rattle.graph_search.specs.declared.paths.Potentials.{Potentials}
-use Rattle.graph_search.specs.Graphs.{known_at, IsPath, cost_of_all, ArePotentials}
+use Rattle.graph_search.specs.Graphs.{known_at, IsEdgePath, cost_of_all, ArePotentials}
 use Rattle.product_graph.specs.declared.vertex_set.NumberedVertex.{NumberedVertex}
 use Rattle.product_graph.specs.declared.search.Found.{Found}
 use Rattle.product_graph.specs.declared.leading.Leading.{Leading}
-use Rattle.product_graph.specs.Inside.{AreInside}
+use Rattle.product_graph.specs.Inside.{AreEdgesInside}
 use Rattle.product_graph.specs.Reversed.{reversed_edge, reversed_edges}
 use Rattle.product_graph.specs.Numbered.{Ground, next_of, IsReachable, PassesOut, LeadsOut}
 use Rattle.product_graph.specs.Finding.{IsAllFound, StepsTo, ComesTo, JoinsEnd, AreLeading, IsReadable, IsSeenLeading}
@@ -22,7 +22,7 @@ costs-all (e ∷ edges) =
     let rest = costs-all edges in
     omega (arith, first, rest)
 
-path-snoc : (es : List Edge) (u : ℕ) (path : List ℕ) (v k : ℕ) (e : Edge) → IsPath es u path v → slice_get es k ≡ Some e → e.from ≡ v → IsPath es u (path ++ k ∷ []) e.to
+path-snoc : (es : List Edge) (u : ℕ) (path : List ℕ) (v k : ℕ) (e : Edge) → IsEdgePath es u path v → slice_get es k ≡ Some e → e.from ≡ v → IsEdgePath es u (path ++ k ∷ []) e.to
 path-snoc es u [] v k e p at from = (e, at, from ∙ sym p, refl)
 path-snoc es u (j ∷ path) v k e p at from = (p.0, p.1, p.2, path-snoc es p.0.to path v k e p.3 at from)
 
@@ -36,7 +36,7 @@ reversed-get [] k b h = absurd (none-some h)
 reversed-get (x ∷ edges) zero b h = (x, refl, some-same h)
 reversed-get (x ∷ edges) (suc k) b h = reversed-get edges k b h
 
-path-steps : (edges : List (ℕ × ℕ)) (last : ℕ) (path : List ℕ) (w v : ℕ) → IsPath (reversed_edges edges) w path v → ComesTo edges last w → ComesTo edges last v
+path-steps : (edges : List (ℕ × ℕ)) (last : ℕ) (path : List ℕ) (w v : ℕ) → IsEdgePath (reversed_edges edges) w path v → ComesTo edges last w → ComesTo edges last v
 path-steps edges last [] w v p c = subst (ComesTo edges last) p c
 path-steps edges last (k ∷ path) w v p c =
     let x = reversed-get edges k p.0 p.1 in
@@ -45,7 +45,7 @@ path-steps edges last (k ∷ path) w v p c =
     let there : Contains edges (x.0.0, w) = subst (λ u. Contains edges (x.0.0, u)) from (get-contains edges k x.0 x.1) in
     path-steps edges last path p.0.to v p.3 (subst (ComesTo edges last) to (w ∷ c.0, (there, c.1)))
 
-steps-path : (edges : List (ℕ × ℕ)) (last : ℕ) (us : List ℕ) (v : ℕ) → StepsTo edges v us last → (path : List ℕ) × IsPath (reversed_edges edges) last path v
+steps-path : (edges : List (ℕ × ℕ)) (last : ℕ) (us : List ℕ) (v : ℕ) → StepsTo edges v us last → (path : List ℕ) × IsEdgePath (reversed_edges edges) last path v
 steps-path edges last [] v h = ([], sym h)
 steps-path edges last (u ∷ us) v h =
     let rest = steps-path edges last us u h.1 in
@@ -60,12 +60,12 @@ known-comes n edges last p are v = (λ h. to (known_at p.distance v) refl h, λ 
     to None e h = absurd (false-true h)
     to (Some c) e h = let r = are.reached v c e in path-steps edges last _ last v r.path ([], refl)
 
-    from : (o : Option ℕ) → known_at p.distance v ≡ o → (path : List ℕ) × IsPath (reversed_edges edges) last path v → IsSome o
+    from : (o : Option ℕ) → known_at p.distance v ≡ o → (path : List ℕ) × IsEdgePath (reversed_edges edges) last path v → IsSome o
     from None e h = absurd ((are.unreached v e).1 h.0 h.1)
     from (Some c) e h = refl
 
 -- edges between vertices and to the end are edges of so many places
-pub are-inside : (P : NumberedVertex → Type 0) (vertices : List NumberedVertex) (old edges : List (ℕ × ℕ)) → AreInside (length vertices) old None → ((e : ℕ × ℕ) → Contains edges e ↔ (Contains old e ⊎ JoinsEnd P vertices e)) → AreInside (length vertices + 1) edges None
+pub are-inside : (P : NumberedVertex → Type 0) (vertices : List NumberedVertex) (old edges : List (ℕ × ℕ)) → AreEdgesInside (length vertices) old None → ((e : ℕ × ℕ) → Contains edges e ↔ (Contains old e ⊎ JoinsEnd P vertices e)) → AreEdgesInside (length vertices + 1) edges None
 are-inside P vertices old edges inside are = (all-contained (λ e. (e.0 < length vertices + 1) × (e.1 < length vertices + 1)) edges (λ e c. by e ((are e).0 c)), tt)
   where
     by : (e : ℕ × ℕ) → Contains old e ⊎ JoinsEnd P vertices e → (e.0 < length vertices + 1) × (e.1 < length vertices + 1)
@@ -77,7 +77,7 @@ are-inside P vertices old edges inside are = (all-contained (λ e. (e.0 < length
     by e (inr c) = let from = get-below vertices e.0 c.1.0 c.1.1 in let to = c.0 in (omega (arith, from), omega (arith, to))
 
 -- the edges that were found are inside
-pub found-inside : (g : Ground) (starts : List NumberedVertex) (found : Found) → IsAllFound g starts found → AreInside (length found.vertices) found.edges None
+pub found-inside : (g : Ground) (starts : List NumberedVertex) (found : Found) → IsAllFound g starts found → AreEdgesInside (length found.vertices) found.edges None
 found-inside g starts found all = (all-contained (λ e. (e.0 < length found.vertices) × (e.1 < length found.vertices)) found.edges (λ e c. let j = all.sound e c in (get-below found.vertices e.0 j.0 j.1, get-below found.vertices e.1 (next_of g j.0 j.2.0) j.2.2)), tt)
 
 module _ (g : Ground) (IsOneOfLast : NumberedVertex → Type 0) (starts : List NumberedVertex) (found : Found) (all : IsAllFound g starts found)

@@ -3,12 +3,12 @@ use Rattle.std.proofs.Common.{◌≡◌, ◌≢◌, ◌<◌, ◌⊎◌, inl, inr
 use Rattle.merlin_model.specs.Networks.{Network, IsHost}
 use Rattle.merlin_model.specs.Words.{at}
 use Rattle.merlin_model.proofs.Members.{In, in_from, in_to, in_append, in_append-right}
-use Rattle.rules_model.specs.Products.{SymbolAutomaton, Vertex, start_of, IsEdge, IsLast, LeadsToEnd}
+use Rattle.rules_model.specs.Products.{SymbolAutomaton, Vertex, start_of, IsEdge, IsLast, LeadsToEnd, IsJoined}
 use Rattle.rules_model.proofs.Trees.{leads-on}
 use Rattle.product_graph.specs.declared.span.Product.{Product}
 use Rattle.product_graph.specs.declared.span.Span2.{Span2}
 use Rattle.product_graph.specs.declared.span.Span2.TheVariants.{Pair, All}
-use Rattle.product_graph.specs.Products.{dest_of, IsSource, vertices_of, StandsIn, IsJoined, IsTrimmed}
+use Rattle.product_graph.specs.Products.{dest_of, IsSource, vertices_of, StandsIn, IsTrimmed}
 
 pub some-same : {X : Type 0} {a b : X} → Some a ≡ Some b → a ≡ b
 some-same e = cc

@@ -5,15 +5,15 @@ use Rattle.merlin_model.specs.declared.policy.Symbol.{Symbol}
 use Rattle.merlin_model.specs.Networks.{Network, IsHost, Pairwise}
 use Rattle.merlin_model.specs.Words.{at}
 use Rattle.path_automaton.specs.Automata.{AutomatonTables, step}
-use Rattle.rules_model.specs.Products.{SymbolAutomaton, Vertex, loc_of, start_of, IsEdge, IsLast, LeadsToEnd}
+use Rattle.rules_model.specs.Products.{SymbolAutomaton, Vertex, loc_of, start_of, IsEdge, IsLast, LeadsToEnd, IsBefore, IsJoined}
 use Rattle.product_graph.specs.declared.followers.Followers.{Followers}
 use Rattle.product_graph.specs.declared.vertex_set.NumberedVertex.{NumberedVertex}
 use Rattle.product_graph.specs.declared.leading.Destination.{Destination}
 use Rattle.product_graph.specs.declared.kept.Kept.{Kept}
 use Rattle.product_graph.specs.declared.span.Span2.{Span2}
 use Rattle.product_graph.specs.declared.span.Product.{Product}
-use Rattle.product_graph.specs.Products.{automaton_of, dest_of, IsSource, vertex_of, vertices_of, IsBefore, StandsIn, IsStart, IsJoined, IsCut, IsTrimmed}
-use Rattle.product_graph.specs.Inside.{AreInside}
+use Rattle.product_graph.specs.Products.{automaton_of, dest_of, IsSource, vertex_of, vertices_of, StandsIn, IsStart, IsEmptyOverSpan, IsTrimmed}
+use Rattle.product_graph.specs.Inside.{AreEdgesInside}
 use Rattle.product_graph.specs.Followers.{AreOrderedSymbols, AreFollowersOf}
 use Rattle.product_graph.specs.Numbered.{Ground, ground_of, next_of, GoesOnBy, PassesOut, LeadsOut, IsNumberedBefore, vertex_by}
 use Rattle.product_graph.specs.Ends.{IsDestination, IsLastBy, HasNumbersOf, IsSymbolInside}
@@ -106,7 +106,7 @@ module _ (net : Network) (symbols : List Symbol) (are : AreOrderedSymbols net sy
   flag q c last = let place = contains-get k.vertices q (subst (λ l. Contains l q) (sym b.vertices) c) in (place.0, place.1, (flags.each place.0 q place.1).1 last)
 
   -- Where no kept vertex is one of the last, no walk is allowed.
-  pub is-cut : (product : Product) → IsNothing product → IsLeastBelow t e.symbol k.vertices lasts (length k.vertices) None → IsCut net a span product
+  pub is-cut : (product : Product) → IsNothing product → IsLeastBelow t e.symbol k.vertices lasts (length k.vertices) None → IsEmptyOverSpan net a span product
   is-cut product empty none = record {
     none = never;
     vertices = empty.0;
@@ -265,7 +265,7 @@ module _ (net : Network) (symbols : List Symbol) (are : AreOrderedSymbols net sy
     }
 
 -- the edges that are assembled stand among the vertices
-pub assembled-inside : (g : Ground) (kept : List NumberedVertex) (lasts : List Bool) (edges : List (ℕ × ℕ)) → AreEdgesBelow g kept lasts (length kept) edges → AreInside (suc (length kept)) edges (Some (length kept))
+pub assembled-inside : (g : Ground) (kept : List NumberedVertex) (lasts : List Bool) (edges : List (ℕ × ℕ)) → AreEdgesBelow g kept lasts (length kept) edges → AreEdgesInside (suc (length kept)) edges (Some (length kept))
 assembled-inside g kept lasts edges s = (all-contained (λ e. (e.0 < suc (length kept)) × (e.1 < suc (length kept))) edges (λ e c. let h = (s.each e).0 c in let lt = h.0 in (omega (arith, lt), to e h.1)), omega arith)
   where
     to : (e : ℕ × ℕ) → IsEdgeOut g kept lasts e.0 e → e.1 < suc (length kept)

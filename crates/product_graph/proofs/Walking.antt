@@ -13,7 +13,7 @@ use Rattle.product_graph.specs.declared.span.Vertex.{Vertex as ListedVertex}
 use Rattle.product_graph.specs.declared.span.Product.{Product}
 use Rattle.product_graph.specs.declared.span.Span2.{Span2}
 use Rattle.product_graph.specs.Products.{dest_of, IsSource, vertex_of, StandsIn, IsTrimmed}
-use Rattle.product_graph.specs.Walks.{LeadsBy, IsPathBy, symbol_at, edge_at, arrival_by, word_by, vertex_after, NeverTurns}
+use Rattle.product_graph.specs.Walks.{LeadsBy, IsPathBy, vertex_symbol_at, edge_at, arrival_by, word_by, vertex_after, NeverTurns}
 use Rattle.product_graph.proofs.Standing.{some-same, none-some, get-below, below-get, get-in, in-get, get-front, source-host, stands-next, stands-at, end-at, not-end, joined-from}
 
 -- the symbol of a listed vertex
@@ -34,11 +34,11 @@ exact-way net a d v (y ∷ z ∷ rest) h e t =
     (vertex_after a v y ∷ more.0, (record { follows = h.0; symbol = h.1; inside = h.2; state = refl; turns = t.0 }, more.1), ap (λ l. y ∷ l) more.2)
 
 module _ (net : Network) (a : SymbolAutomaton) (span : Span2) (product : Product) (is : IsTrimmed net a span product) where
-  symbol-here : (k : ℕ) (v : Vertex) → slice_get (is.first ++ is.inner) k ≡ Some v → symbol_at product k ≡ v.symbol
+  symbol-here : (k : ℕ) (v : Vertex) → slice_get (is.first ++ is.inner) k ≡ Some v → vertex_symbol_at product k ≡ v.symbol
   symbol-here k v ev = symbol-is product.vertices k v (stands-at net a span product is k v ev)
 
-  symbol-end : (k : ℕ) → k ≡ length (is.first ++ is.inner) → symbol_at product k ≡ at (dest_of span)
-  symbol-end k same = ap (symbol_at product) same ∙ symbol-is product.vertices (length (is.first ++ is.inner)) (record { symbol = at (dest_of span); state = is.state }) (end-at net a span product is)
+  symbol-end : (k : ℕ) → k ≡ length (is.first ++ is.inner) → vertex_symbol_at product k ≡ at (dest_of span)
+  symbol-end k same = ap (vertex_symbol_at product) same ∙ symbol-is product.vertices (length (is.first ++ is.inner)) (record { symbol = at (dest_of span); state = is.state }) (end-at net a span product is)
 
   -- edges that lead to the end pass vertices that lead there
   path-way : (ks : List ℕ) (k : ℕ) (v : Vertex) → slice_get (is.first ++ is.inner) k ≡ Some v → LeadsBy product k ks → (us : List Vertex) × LeadsToEnd net a (dest_of span) v us × (map (arrival_by product) ks ≡ word_to (dest_of span) us)
@@ -48,8 +48,8 @@ module _ (net : Network) (a : SymbolAutomaton) (span : Span2) (product : Product
       there : Contains product.edges (k, h.0.1)
       there = subst (λ i. Contains product.edges (i, h.0.1)) h.2 (in_to product.edges h.0 (get-in product.edges j h.0 h.1))
 
-      arrives : arrival_by product j ≡ symbol_at product h.0.1
-      arrives = ap (λ e. symbol_at product e.1) (edge-is product j h.0 h.1)
+      arrives : arrival_by product j ≡ vertex_symbol_at product h.0.1
+      arrives = ap (λ e. vertex_symbol_at product e.1) (edge-is product j h.0 h.1)
 
       last : (ks : List ℕ) → h.0.1 ≡ length (is.first ++ is.inner) → LeadsBy product h.0.1 ks → ks ≡ []
       last [] same l = refl
@@ -68,13 +68,13 @@ module _ (net : Network) (a : SymbolAutomaton) (span : Span2) (product : Product
   way-path [] k v ev leads =
       let there = (is.joined (k, length (is.first ++ is.inner))).1 (v, ev, inr (refl, leads)) in
       let place = in-get product.edges (k, length (is.first ++ is.inner)) (in_from product.edges (k, length (is.first ++ is.inner)) there) in
-      (place.0, ([], (((k, length (is.first ++ is.inner)), place.1, refl, is.end), ap (λ x. x ∷ []) (ap (λ e. symbol_at product e.1) (edge-is product place.0 (k, length (is.first ++ is.inner)) place.1) ∙ symbol-end (length (is.first ++ is.inner)) refl))))
+      (place.0, ([], (((k, length (is.first ++ is.inner)), place.1, refl, is.end), ap (λ x. x ∷ []) (ap (λ e. vertex_symbol_at product e.1) (edge-is product place.0 (k, length (is.first ++ is.inner)) place.1) ∙ symbol-end (length (is.first ++ is.inner)) refl))))
   way-path (u ∷ us) k v ev leads =
       let at_u = in-get (is.first ++ is.inner) u (stands-next net a span product is v u us (get-in (is.first ++ is.inner) k v ev) leads.0 leads.1) in
       let there = (is.joined (k, at_u.0)).1 (v, ev, inl (u, at_u.1, leads.0)) in
       let place = in-get product.edges (k, at_u.0) (in_from product.edges (k, at_u.0) there) in
       let rest = way-path us at_u.0 u at_u.1 leads.1 in
-      (place.0, (rest.0 ∷ rest.1.0, (((k, at_u.0), place.1, refl, rest.1.1.0), ap₂ (λ x w. x ∷ w) (ap (λ e. symbol_at product e.1) (edge-is product place.0 (k, at_u.0) place.1) ∙ symbol-here at_u.0 u at_u.1) rest.1.1.1)))
+      (place.0, (rest.0 ∷ rest.1.0, (((k, at_u.0), place.1, refl, rest.1.1.0), ap₂ (λ x w. x ∷ w) (ap (λ e. vertex_symbol_at product e.1) (edge-is product place.0 (k, at_u.0) place.1) ∙ symbol-here at_u.0 u at_u.1) rest.1.1.1)))
 
   -- the place of a start
   start-place : (k : ℕ) → Contains product.starts k → (s : ℕ) × IsSource net span s × (slice_get (is.first ++ is.inner) k ≡ Some (start_of a s))
@@ -89,7 +89,7 @@ module _ (net : Network) (a : SymbolAutomaton) (span : Span2) (product : Product
   path-walks dest (k ∷ ks) h =
       let place = start-place h.0 h.1 in
       let way = path-way (k ∷ ks) h.0 (start_of a place.0) place.2 h.2 in
-      let first : symbol_at product (edge_at product k).0 ≡ at place.0 = ap (λ e. symbol_at product e.0) (edge-is product k h.2.0 h.2.1) ∙ ap (symbol_at product) h.2.2 ∙ symbol-here h.0 (start_of a place.0) place.2 in
+      let first : vertex_symbol_at product (edge_at product k).0 ≡ at place.0 = ap (λ e. vertex_symbol_at product e.0) (edge-is product k h.2.0 h.2.1) ∙ ap (vertex_symbol_at product) h.2.2 ∙ symbol-here h.0 (start_of a place.0) place.2 in
       let word : word_by product (k ∷ ks) ≡ at place.0 ∷ word_to (dest_of span) way.0 = ap₂ (λ x w. x ∷ w) first way.2 in
       let host = source-host net span place.0 place.1 in
       let walks : WalksFrom net place.0 (dest_of span) (at place.0 ∷ word_to (dest_of span) way.0) = (refl, host_symbol net place.0 host, host, dest, way-goes_on net a (dest_of span) (start_of a place.0) way.0 dest way.1) in (
@@ -109,5 +109,5 @@ module _ (net : Network) (a : SymbolAutomaton) (span : Span2) (product : Product
       let here : slice_get (is.first ++ is.inner) place.0 ≡ Some (start_of a s) = get-front is.first is.inner place.0 (start_of a s) place.1 in
       let path = way-path way.0 place.0 (start_of a s) here way.1 in
       let leads = path.1.1.0 in
-      let first : symbol_at product (edge_at product path.0).0 ≡ at s = ap (λ e. symbol_at product e.0) (edge-is product path.0 leads.0 leads.1) ∙ ap (symbol_at product) leads.2 ∙ symbol-here place.0 (start_of a s) here in
+      let first : vertex_symbol_at product (edge_at product path.0).0 ≡ at s = ap (λ e. vertex_symbol_at product e.0) (edge-is product path.0 leads.0 leads.1) ∙ ap (vertex_symbol_at product) leads.2 ∙ symbol-here place.0 (start_of a s) here in
       (path.0 ∷ path.1.0, (place.0, (is.starts place.0).1 (get-below is.first place.0 (start_of a s) place.1), leads), ap₂ (λ x w. x ∷ w) first (path.1.1.1 ∙ way.2))

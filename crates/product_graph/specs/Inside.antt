@@ -3,8 +3,8 @@ use Rattle.std.specs.Prelude.{ℕ, ◌<◌, List, [], length, Option, MatchOptio
 use Rattle.std.specs.List.{AllByRecursion, slice_index_or}
 use Rattle.merlin_model.specs.Networks.{Pairwise}
 
-abbrev pub AreInside : ℕ → List (ℕ × ℕ) → Option ℕ → Type 0
-AreInside n edges end = AllByRecursion (λ e. (e.0 < n) × (e.1 < n)) edges × MatchOption end ⊤ (λ k. k < n)
+abbrev pub AreEdgesInside : ℕ → List (ℕ × ℕ) → Option ℕ → Type 0
+AreEdgesInside n edges end = AllByRecursion (λ e. (e.0 < n) × (e.1 < n)) edges × MatchOption end ⊤ (λ k. k < n)
 
 abbrev pub AreRising : List ℕ → Type 0
 AreRising row = Pairwise (λ u v. u < v) row

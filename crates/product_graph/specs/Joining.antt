@@ -4,12 +4,12 @@ use Rattle.std.specs.List.{slice_index_or}
 use Rattle.merlin_model.specs.declared.policy.Symbol.{Symbol}
 use Rattle.merlin_model.specs.Networks.{Network, Pairwise}
 use Rattle.path_automaton.specs.Automata.{AutomatonTables, step}
+use Rattle.rules_model.specs.Products.{IsEdgeBefore}
 use Rattle.product_graph.specs.declared.followers.Followers.{Followers}
 use Rattle.product_graph.specs.declared.vertex_set.NumberedVertex.{NumberedVertex}
 use Rattle.product_graph.specs.Inside.{AreRising}
 use Rattle.product_graph.specs.Followers.{follower_numbers}
 use Rattle.product_graph.specs.Numbered.{Ground, next_of, GoesOnBy}
-use Rattle.product_graph.specs.Products.{IsEdgeBefore}
 use Rattle.product_graph.specs.Ends.{IsLastBy}
 
 -- the flag of each vertex says whether the host may follow it, in an accepting state

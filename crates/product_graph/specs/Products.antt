@@ -1,9 +1,9 @@
 -- Products as lists: which vertices and edges stand between hosts, and in which order.
-use Rattle.std.specs.Prelude.{ℕ, ◌≡◌, ◌≢◌, ◌≤◌, ◌<◌, ◌⊎◌, ◌↔◌, List, [], ◌∷◌, ◌++◌, length, map, None, Some, slice_get, Contains}
+use Rattle.std.specs.Prelude.{ℕ, ◌≡◌, ◌≢◌, ◌≤◌, ◌<◌, ◌⊎◌, ◌↔◌, List, [], ◌∷◌, ◌++◌, length, map, None, Some, Contains}
 use Rattle.merlin_model.specs.Networks.{Network, IsHost, Pairwise}
 use Rattle.merlin_model.specs.Words.{at}
 use Rattle.merlin_model.specs.declared.policy.Symbol.{Symbol}
-use Rattle.rules_model.specs.Products.{SymbolAutomaton, Vertex, loc_of, start_of, function_place, IsEdge, IsLast, LeadsToEnd, IsOnWayBetween}
+use Rattle.rules_model.specs.Products.{SymbolAutomaton, Vertex, loc_of, start_of, IsLast, LeadsToEnd, IsOnWayBetween, IsBefore, IsEdgeBefore, IsJoined}
 use Rattle.path_automaton.specs.Automata.{AutomatonTables, step, accepts, number_in}
 use Rattle.product_graph.specs.declared.span.Vertex.{Vertex as ListedVertex}
 use Rattle.product_graph.specs.declared.span.Product.{Product}
@@ -30,16 +30,6 @@ vertex_of v = record { symbol = v.symbol; state = v.state }
 abbrev pub vertices_of : Product → List Vertex
 vertices_of product = map vertex_of product.vertices
 
--- by location, function (none first) and state
-abbrev pub IsBefore : Vertex → Vertex → Type 0
-IsBefore u v =
-    (loc_of u < loc_of v)
-    ⊎ ((loc_of u ≡ loc_of v) × ((function_place u.symbol.fun < function_place v.symbol.fun)
-    ⊎ ((function_place u.symbol.fun ≡ function_place v.symbol.fun) × (u.state < v.state))))
-
-abbrev pub IsEdgeBefore : ℕ × ℕ → ℕ × ℕ → Type 0
-IsEdgeBefore e f = (e.0 < f.0) ⊎ ((e.0 ≡ f.0) × (e.1 < f.1))
-
 -- v is a vertex of the product: one that walks start from leads to it, and it leads to the end
 abbrev pub StandsIn : Network → SymbolAutomaton → Span2 → Vertex → Type 0
 StandsIn net a span v = (s : ℕ) × IsSource net span s × IsOnWayBetween net a s (dest_of span) v
@@ -47,16 +37,8 @@ StandsIn net a span v = (s : ℕ) × IsSource net span s × IsOnWayBetween net a
 abbrev pub IsStart : Network → SymbolAutomaton → Span2 → Vertex → Type 0
 IsStart net a span v = (s : ℕ) × IsSource net span s × (v ≡ start_of a s)
 
--- an edge leads from the vertex at the first place to that at the second, or to the end, which
--- stands after these vertices
-abbrev pub IsJoined : Network → SymbolAutomaton → ℕ → List Vertex → ℕ × ℕ → Type 0
-IsJoined net a d inside e =
-    (v : Vertex) × (slice_get inside e.0 ≡ Some v)
-    × (((u : Vertex) × (slice_get inside e.1 ≡ Some u) × IsEdge net a v u)
-    ⊎ ((e.1 ≡ length inside) × IsLast net a d v))
-
 -- no walk is allowed, and nothing stands in the product
-pub record IsCut (net : Network) (a : SymbolAutomaton) (span : Span2) (product : Product) : Type 0 where
+pub record IsEmptyOverSpan (net : Network) (a : SymbolAutomaton) (span : Span2) (product : Product) : Type 0 where
   pub none : (s : ℕ) (us : List Vertex) → IsSource net span s → ¬ LeadsToEnd net a (dest_of span) (start_of a s) us
   pub vertices : product.vertices ≡ []
   pub edges : product.edges ≡ []
@@ -86,4 +68,4 @@ pub record IsTrimmed (net : Network) (a : SymbolAutomaton) (span : Span2) (produ
 
 -- the product between the hosts, trimmed to what lies on walks
 abbrev pub IsProduct : Network → SymbolAutomaton → Span2 → Product → Type 0
-IsProduct net a span product = IsCut net a span product ⊎ IsTrimmed net a span product
+IsProduct net a span product = IsEmptyOverSpan net a span product ⊎ IsTrimmed net a span product

@@ -16,20 +16,20 @@ LeadsBy product v (k ∷ ks) =
 abbrev pub IsPathBy : Product → List ℕ → Type 0
 IsPathBy product edges = (start : ℕ) × Contains product.starts start × LeadsBy product start edges
 
-abbrev pub symbol_at : Product → ℕ → Symbol
-symbol_at product v = (slice_index_or product.vertices v (record { symbol = at 0; state = 0 })).symbol
+abbrev pub vertex_symbol_at : Product → ℕ → Symbol
+vertex_symbol_at product v = (slice_index_or product.vertices v (record { symbol = at 0; state = 0 })).symbol
 
 abbrev pub edge_at : Product → ℕ → ℕ × ℕ
 edge_at product k = slice_index_or product.edges k (0, 0)
 
 -- the symbol at which an edge arrives
 abbrev pub arrival_by : Product → ℕ → Symbol
-arrival_by product k = symbol_at product (edge_at product k).1
+arrival_by product k = vertex_symbol_at product (edge_at product k).1
 
 -- the symbol that the first of the edges leaves, if there is an edge
 abbrev pub departure_by : Product → List ℕ → List Symbol
 departure_by product [] = []
-departure_by product (k ∷ ks) = symbol_at product (edge_at product k).0 ∷ []
+departure_by product (k ∷ ks) = vertex_symbol_at product (edge_at product k).0 ∷ []
 
 -- the word that the edges spell: the symbol that the first one leaves, and those at which they arrive
 abbrev pub word_by : Product → List ℕ → List Symbol

@@ -3,7 +3,7 @@
 ghost use Rattle.std.specs.Prelude.{◌<◌, ◌+◌, ◌^◌, None, IfOk};
 ghost use Rattle.std.proofs.Props.{props};
 ghost use Rattle.graph_search.specs.Graphs.{ArePotentials};
-ghost use Rattle.product_graph.specs.Inside.{AreInside};
+ghost use Rattle.product_graph.specs.Inside.{AreEdgesInside};
 ghost use Rattle.product_graph.specs.Reversed.{reversed_edges};
 
 use graph_search::{Edge, Graph, Potentials, least};
@@ -16,7 +16,7 @@ use std::alloc::Global;
 pub struct ReversedEdges {
     pub edges: Items<(usize, usize)>,
     pub places: usize,
-    ghost inside: { AreInside places edges None } by { Prim.hlevel props },
+    ghost inside: { AreEdgesInside places edges None } by { Prim.hlevel props },
 }
 
 impl Graph for ReversedEdges {
@@ -49,7 +49,7 @@ pub fn edges_left(
     last: usize,
 ) -> Result<Potentials, OutOfMemory>
     requires places { last + 1 < 2 ^ 64 }
-    requires edges { AreInside (last + 1) edges None }
+    requires edges { AreEdgesInside (last + 1) edges None }
     ensures { IfOk result (ArePotentials (last + 1) (reversed_edges edges) last) }
 {
     // so many edges that their costs can be added

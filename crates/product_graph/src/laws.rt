@@ -12,7 +12,7 @@ ghost use Rattle.product_graph.specs.Walks.{IsPathBy, NeverTurns, word_by};
 
 /// The paths from a start to the end of a product spell walks that the automaton accepts, and all of
 /// these, but for turns at an unchanged symbol and state.
-pub fn paths_are_walks()
+pub fn paths_spell_walks()
     ensures walks { (net : Network) (a : SymbolAutomaton) (span : Span2) (product : Product) →
         IsTrimmed net a span product → IsHost net (dest_of span) → (edges : List ℕ) →
         IsPathBy product edges → (s : ℕ) × IsSource net span s ×

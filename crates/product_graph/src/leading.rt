@@ -5,7 +5,7 @@ ghost use Rattle.std.specs.Prelude.{IfOk, OnOk, IsTrue};
 ghost use Rattle.std.specs.List.{AllByRecursion};
 ghost use Rattle.product_graph.specs.declared.followers.Followers.{Followers};
 ghost use Rattle.product_graph.specs.declared.vertex_set.NumberedVertex.{NumberedVertex};
-ghost use Rattle.product_graph.specs.Inside.{AreInside};
+ghost use Rattle.product_graph.specs.Inside.{AreEdgesInside};
 ghost use Rattle.product_graph.specs.Followers.{AreOrderedSymbols};
 ghost use Rattle.product_graph.specs.Numbered.{ground_of};
 ghost use Rattle.product_graph.specs.Finding.{IsAllFound, JoinsEnd, AreLeading, IsSeenLeading};
@@ -96,7 +96,7 @@ pub fn leading_to_end(
     requires width { automaton.now.width ≡ length symbols.now }
     requires destination { IsDestination symbols.now destination }
     requires vertices { AllByRecursion (HasNumbersOf symbols.now automaton.now) found.vertices }
-    requires edges { AreInside (length found.vertices) found.edges None }
+    requires edges { AreEdgesInside (length found.vertices) found.edges None }
     ensures { (followers : Followers) (starts : List NumberedVertex) →
         length followers.places ≡ length symbols.now →
         IsAllFound (ground_of followers automaton.now) starts found → IfOk result

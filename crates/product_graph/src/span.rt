@@ -2,7 +2,7 @@
 
 ghost use Rattle.std.specs.Prelude.{◌≡◌, length};
 ghost use Rattle.std.proofs.Props.{props};
-ghost use Rattle.product_graph.specs.Inside.{AreInside};
+ghost use Rattle.product_graph.specs.Inside.{AreEdgesInside};
 
 use merlin_model::policy::Symbol;
 use sqlite_items::Items;
@@ -28,7 +28,7 @@ pub struct Product {
     pub(crate) edges: Items<(usize, usize)>,
     pub(crate) starts: Items<usize>,
     pub(crate) end: Option<usize>,
-    ghost inside: { AreInside (length vertices) edges end } by { Prim.hlevel props },
+    ghost inside: { AreEdgesInside (length vertices) edges end } by { Prim.hlevel props },
 }
 
 impl Product {
@@ -43,7 +43,7 @@ impl Product {
     /// The edges, each from one vertex to another, in the order of the vertices.
     pub fn edges(&self) -> &[(usize, usize)]
         ensures edges { result.now ≡ self.now.edges }
-        ensures inside { AreInside (length self.now.vertices) self.now.edges self.now.end }
+        ensures inside { AreEdgesInside (length self.now.vertices) self.now.edges self.now.end }
     {
         self.edges.as_slice()
     }

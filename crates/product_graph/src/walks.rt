@@ -2,7 +2,7 @@
 
 ghost use Rattle.std.specs.Prelude.{◌≡◌, ◌<◌, length, slice_get, Some, IfOk};
 ghost use Rattle.std.specs.List.{AllByRecursion};
-ghost use Rattle.product_graph.specs.Walks.{IsPathBy, word_by, departure_by, symbol_at, edge_at};
+ghost use Rattle.product_graph.specs.Walks.{IsPathBy, word_by, departure_by, vertex_symbol_at, edge_at};
 
 use crate::span::Product;
 use merlin_model::OutOfMemory;
@@ -24,7 +24,7 @@ impl Product {
     /// The symbol of a vertex.
     fn symbol(&self, vertex: usize) -> Symbol
         requires { vertex < length self.now.vertices }
-        ensures { result ≡ symbol_at self.now vertex }
+        ensures { result ≡ vertex_symbol_at self.now vertex }
     {
         self.vertices.as_slice()[vertex].symbol
     }

@@ -7,12 +7,12 @@ use Rattle.merlin_model.specs.declared.policy.Symbol.{Symbol}
 use Rattle.merlin_model.specs.Networks.{Network, directed_links, IsHost, AreDifferent}
 use Rattle.merlin_model.specs.Words.{at, MayFollow, GoesOn, crosses, crossings}
 use Rattle.merlin_model.proofs.Members.{In, in_from, in_to, all_in, in_map, map_in}
-use Rattle.rules_model.specs.Products.{SymbolAutomaton, Vertex, loc_of, start_of, ending_state, IsEdge, IsLast, LeadsToEnd, IsOnWayBetween}
+use Rattle.rules_model.specs.Products.{SymbolAutomaton, Vertex, loc_of, start_of, ending_state, IsEdge, IsLast, LeadsToEnd, IsOnWayBetween, IsJoined}
 use Rattle.rules_model.proofs.Ways.{vertex-same}
 use Rattle.cutoff_program.specs.declared.flow.Variable.{Variable}
 use Rattle.cutoff_program.specs.Flows.{variable_of, rate_over, is_on}
 use Rattle.cutoff_program.specs.Trails.{IsTrailOf, sum_along, comes_to}
-use Rattle.cutoff_program.specs.Products.{Product, IsJoined, place_between, loc_at, edge_of}
+use Rattle.cutoff_program.specs.Products.{Product, place_between, loc_at, edge_of}
 use Rattle.cutoff_program.proofs.Lists.{none_some, some_some, within_length}
 use Rattle.cutoff_program.proofs.Following.{sum-cons}
 use Rattle.cutoff_program.specs.Walks.{vertices_along}
@@ -20,7 +20,7 @@ use Rattle.cutoff_program.proofs.Shortening.{comes_to-cons}
 use Rattle.cutoff_program.proofs.Places.{get-in, in-get, on-is}
 use Rattle.cutoff_program.proofs.Ways.{crossings-cons, word-way, between-more}
 use Rattle.cutoff_program.proofs.Flights.{IsLaid}
-use Rattle.program_walks.specs.Marks.{symbol_in, IsNextBy, Follows}
+use Rattle.program_walks.specs.Marks.{symbol_in, IsNextBy, FollowsTrail}
 
 get-first : {X : Type 0} (xs ys : List X) (k : ℕ) (x : X) → slice_get xs k ≡ Some x → slice_get (xs ++ ys) k ≡ Some x
 get-first [] ys k x e = absurd (none_some e)
@@ -118,7 +118,7 @@ module _ (net : Network) (a : SymbolAutomaton) (s d rate n : ℕ) (variables : L
     pub few : length trail ≤ length word
 
   -- the last symbol leads to the end
-  last-step : (i : ℕ) (v : Vertex) (y : Symbol) (trail : List ℕ) (to : ℕ) → slice_get stand i ≡ Some v → MayFollow net (v.symbol, y) → y ≡ at d → a.accepts (a.step v.state y) ≡ true → Follows variables symbols n i (y ∷ []) trail to → HasTrailOf i v (y ∷ []) trail to
+  last-step : (i : ℕ) (v : Vertex) (y : Symbol) (trail : List ℕ) (to : ℕ) → slice_get stand i ≡ Some v → MayFollow net (v.symbol, y) → y ≡ at d → a.accepts (a.step v.state y) ≡ true → FollowsTrail variables symbols n i (y ∷ []) trail to → HasTrailOf i v (y ∷ []) trail to
   last-step i v y trail to here may is accepts (inl stay) =
       absurd (leads-on i y (length stand) (v, here, inr (refl, record { follows = subst (λ z. MayFollow net (v.symbol, z)) is may; accepts = ap (λ z. a.accepts (a.step v.state z)) (sym is) ∙ accepts })) (symbol-end ∙ sym is) stay.0)
   last-step i v y trail to here may is accepts (inr go) = by g.joined.2
@@ -166,7 +166,7 @@ module _ (net : Network) (a : SymbolAutomaton) (s d rate n : ℕ) (variables : L
           }
 
   pub follow-trail : (word : List Symbol) (i : ℕ) (v : Vertex) (trail : List ℕ) (to : ℕ) → slice_get stand i ≡ Some v → IsOnWayBetween net a s d v → GoesOn net d v.symbol word → a.accepts (ending_state a v.state word) ≡ true →
-      Follows variables symbols n i word trail to → HasTrailOf i v word trail to
+      FollowsTrail variables symbols n i word trail to → HasTrailOf i v word trail to
   follow-trail [] i v trail to here between goes accepts f = absurd goes
   follow-trail (y ∷ []) i v trail to here between goes accepts f = last-step i v y trail to here goes.0 goes.2 accepts f
   follow-trail (y ∷ z ∷ rest) i v trail to here between goes accepts f = by f (λ i v trail to. follow-trail (z ∷ rest) i v trail to)
@@ -192,9 +192,9 @@ module _ (net : Network) (a : SymbolAutomaton) (s d rate n : ℕ) (variables : L
           let j = place other in
           absurd (leads-on i y j.0 (v, here, inl (next, j.1, onward other)) (symbol-inside j.0 next j.1) none)
 
-      by : Follows variables symbols n i (y ∷ z ∷ rest) trail to →
+      by : FollowsTrail variables symbols n i (y ∷ z ∷ rest) trail to →
           ((i : ℕ) (v : Vertex) (trail : List ℕ) (to : ℕ) → slice_get stand i ≡ Some v → IsOnWayBetween net a s d v → GoesOn net d v.symbol (z ∷ rest) → a.accepts (ending_state a v.state (z ∷ rest)) ≡ true →
-          Follows variables symbols n i (z ∷ rest) trail to → HasTrailOf i v (z ∷ rest) trail to) → HasTrailOf i v (y ∷ z ∷ rest) trail to
+          FollowsTrail variables symbols n i (z ∷ rest) trail to → HasTrailOf i v (z ∷ rest) trail to) → HasTrailOf i v (y ∷ z ∷ rest) trail to
       by (inl stay) ih =
           let same = turned (vertex-same net a d v next) stay.0 in
           let first : v.symbol ≡ y = ap (λ x. x.symbol) same in
@@ -248,7 +248,7 @@ module _ (net : Network) (a : SymbolAutomaton) (s d rate n : ℕ) (variables : L
               let state : u.0.state ≡ a.step v.state y = edge.state ∙ ap (a.step v.state) symbol in
               let is : u.0 ≡ next = ap₂ (λ x q. record { symbol = x; state = q }) symbol state in
               let other : v ≢ next = λ e. edge.turns (e ∙ sym is) in
-              let later = ih g.e.1 next go.1.0 to (u.1 ∙ ap Some is) (between-next other) goes.3 accepts (subst (λ x. Follows variables symbols n x (z ∷ rest) go.1.0 to) target go.1.1.4) in
+              let later = ih g.e.1 next go.1.0 to (u.1 ∙ ap Some is) (between-next other) goes.3 accepts (subst (λ x. FollowsTrail variables symbols n x (z ∷ rest) go.1.0 to) target go.1.1.4) in
               record {
                 steps = subst (λ ks. IsTrailOf variables n ks i (length stand)) (sym go.1.1.1) (w, at_k, go.1.1.3.0, go.1.1.3.1, subst (λ x. IsTrailOf variables n go.1.0 x (length stand)) (sym target) later.steps);
                 ends = later.ends;
@@ -286,7 +286,7 @@ module _ (net : Network) (a : SymbolAutomaton) (s d rate n : ℕ) (variables : L
     pub places : AllByRecursion (IsPlaceOf (vertices_along a v.state word)) (comes_to variables trail)
 
   -- the last symbol leads to the end
-  last-path : (i : ℕ) (v : Vertex) (y : Symbol) (trail : List ℕ) (to : ℕ) → slice_get stand i ≡ Some v → MayFollow net (v.symbol, y) → y ≡ at d → a.accepts (a.step v.state y) ≡ true → Follows variables symbols n i (y ∷ []) trail to → HasPathOf i v (y ∷ []) trail
+  last-path : (i : ℕ) (v : Vertex) (y : Symbol) (trail : List ℕ) (to : ℕ) → slice_get stand i ≡ Some v → MayFollow net (v.symbol, y) → y ≡ at d → a.accepts (a.step v.state y) ≡ true → FollowsTrail variables symbols n i (y ∷ []) trail to → HasPathOf i v (y ∷ []) trail
   last-path i v y trail to here may is accepts (inl stay) =
       absurd (leads-on i y (length stand) (v, here, inr (refl, record { follows = subst (λ z. MayFollow net (v.symbol, z)) is may; accepts = ap (λ z. a.accepts (a.step v.state z)) (sym is) ∙ accepts })) (symbol-end ∙ sym is) stay.0)
   last-path i v y trail to here may is accepts (inr go) = by g.joined.2
@@ -319,7 +319,7 @@ module _ (net : Network) (a : SymbolAutomaton) (s d rate n : ℕ) (variables : L
           }
 
   pub follow-path : (word : List Symbol) (i : ℕ) (v : Vertex) (trail : List ℕ) (to : ℕ) → slice_get stand i ≡ Some v → IsOnWayBetween net a s d v → GoesOn net d v.symbol word → a.accepts (ending_state a v.state word) ≡ true →
-      Follows variables symbols n i word trail to → AreDifferent (v ∷ vertices_along a v.state word) → HasPathOf i v word trail
+      FollowsTrail variables symbols n i word trail to → AreDifferent (v ∷ vertices_along a v.state word) → HasPathOf i v word trail
   follow-path [] i v trail to here between goes accepts f simple = absurd goes
   follow-path (y ∷ []) i v trail to here between goes accepts f simple = last-path i v y trail to here goes.0 goes.2 accepts f
   follow-path (y ∷ z ∷ rest) i v trail to here between goes accepts f simple = by f (λ i v trail to. follow-path (z ∷ rest) i v trail to)
@@ -342,9 +342,9 @@ module _ (net : Network) (a : SymbolAutomaton) (s d rate n : ℕ) (variables : L
       place : (j : ℕ) × (slice_get stand j ≡ Some next)
       place = in-get stand next (in_from stand next ((laid.trimmed.exactly next).1 between-next))
 
-      by : Follows variables symbols n i (y ∷ z ∷ rest) trail to →
+      by : FollowsTrail variables symbols n i (y ∷ z ∷ rest) trail to →
           ((i : ℕ) (v : Vertex) (trail : List ℕ) (to : ℕ) → slice_get stand i ≡ Some v → IsOnWayBetween net a s d v → GoesOn net d v.symbol (z ∷ rest) → a.accepts (ending_state a v.state (z ∷ rest)) ≡ true →
-          Follows variables symbols n i (z ∷ rest) trail to → AreDifferent (v ∷ vertices_along a v.state (z ∷ rest)) → HasPathOf i v (z ∷ rest) trail) → HasPathOf i v (y ∷ z ∷ rest) trail
+          FollowsTrail variables symbols n i (z ∷ rest) trail to → AreDifferent (v ∷ vertices_along a v.state (z ∷ rest)) → HasPathOf i v (z ∷ rest) trail) → HasPathOf i v (y ∷ z ∷ rest) trail
       by (inl stay) ih = absurd (leads-on i y place.0 (v, here, inl (next, place.1, onward)) (symbol-inside place.0 next place.1) stay.0)
       by (inr go) ih = on g.joined.2
         where
@@ -378,7 +378,7 @@ module _ (net : Network) (a : SymbolAutomaton) (s d rate n : ℕ) (variables : L
               let symbol : u.0.symbol ≡ y = sym (symbol-inside g.e.1 u.0 u.1) ∙ ap (symbol_in symbols) (sym target) ∙ go.1.1.3.2 in
               let state : u.0.state ≡ a.step v.state y = edge.state ∙ ap (a.step v.state) symbol in
               let is : u.0 ≡ next = ap₂ (λ x q. record { symbol = x; state = q }) symbol state in
-              let later = ih g.e.1 next go.1.0 to (u.1 ∙ ap Some is) between-next goes.3 accepts (subst (λ x. Follows variables symbols n x (z ∷ rest) go.1.0 to) target go.1.1.4) simple.1 in
+              let later = ih g.e.1 next go.1.0 to (u.1 ∙ ap Some is) between-next goes.3 accepts (subst (λ x. FollowsTrail variables symbols n x (z ∷ rest) go.1.0 to) target go.1.1.4) simple.1 in
               let comes : comes_to variables trail ≡ g.e.1 ∷ comes_to variables go.1.0 =
               ap (comes_to variables) go.1.1.1 ∙ comes_to-cons variables k go.1.0 w at_k ∙ ap (λ p. p ∷ comes_to variables go.1.0) target in
               let places : AllByRecursion (IsPlaceOf (vertices_along a v.state (y ∷ z ∷ rest))) (g.e.1 ∷ comes_to variables go.1.0) =

@@ -6,7 +6,7 @@ use Rattle.rules_model.specs.Products.{SymbolAutomaton, Vertex}
 use Rattle.rules_model.proofs.Ways.{vertex-same}
 use Rattle.cutoff_program.specs.declared.flow.Variable.{Variable}
 use Rattle.cutoff_program.proofs.Lists.{none_some, some_some}
-use Rattle.program_walks.specs.Marks.{symbol_in, LeadsToSymbol, IsNextBy, Follows}
+use Rattle.program_walks.specs.Marks.{symbol_in, LeadsToSymbol, IsNextBy, FollowsTrail}
 
 module _ (net : Network) (a : SymbolAutomaton) where
   stand_at : Symbol → Vertex
@@ -46,7 +46,7 @@ module _ (net : Network) (a : SymbolAutomaton) where
   pub record HasFollowed (variables : List Variable) (symbols : List Symbol) (n vertex : ℕ) (word : List Symbol) : Type 0 where
     pub trail : List ℕ
     pub to : ℕ
-    pub follows : Follows variables symbols n vertex word trail to
+    pub follows : FollowsTrail variables symbols n vertex word trail to
 
   pub followed : (variables : List Variable) (symbols : List Symbol) (n vertex : ℕ) (word : List Symbol) → HasFollowed variables symbols n vertex word
   followed variables symbols n vertex [] = record { trail = []; to = vertex; follows = (refl, refl) }

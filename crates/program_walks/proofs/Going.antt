@@ -8,7 +8,7 @@ use Rattle.merlin_model.specs.Networks.{AreDifferent}
 use Rattle.merlin_model.specs.Programs.{is_chosen}
 use Rattle.merlin_model.proofs.Members.{In, in_from}
 use Rattle.graph_search.specs.declared.graph.Edge.{Edge}
-use Rattle.graph_search.specs.Graphs.{GoesBack, IsPath as IsEdgePath, cost_of_path, cost_of_edge}
+use Rattle.graph_search.specs.Graphs.{GoesBack, IsEdgePath, cost_of_path, cost_of_edge}
 use Rattle.cutoff_program.specs.Flows.{variables_of, cost_of_variable}
 use Rattle.cutoff_program.specs.declared.flow.Problem.{Problem}
 use Rattle.cutoff_program.specs.declared.flow.Variable.{Variable}

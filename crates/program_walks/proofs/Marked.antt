@@ -8,12 +8,12 @@ use Rattle.cutoff_program.specs.declared.flow.Variable.{Variable}
 use Rattle.cutoff_program.specs.Trails.{edges_of, sum_along, plus_term, point_with}
 use Rattle.cutoff_program.proofs.Lists.{some_some, none_some}
 use Rattle.cutoff_program.proofs.Following.{earlier-count}
-use Rattle.program_walks.specs.Marks.{LeadsToSymbol, IsNextBy, Follows, with_more, TakesTrail, TrailsOf, TakeTrails}
+use Rattle.program_walks.specs.Marks.{LeadsToSymbol, IsNextBy, FollowsTrail, with_more, TakesTrail, TrailsOf, TakeTrails}
 
 -- A symbol more.
 
-pub follows-stay : (variables : List Variable) (symbols : List Symbol) (n vertex : ℕ) (word : List Symbol) (trail : List ℕ) (to : ℕ) (x : Symbol) → Follows variables symbols n vertex word trail to →
-    IsNextBy variables symbols n to x None → Follows variables symbols n vertex (word ++ x ∷ []) trail to
+pub follows-stay : (variables : List Variable) (symbols : List Symbol) (n vertex : ℕ) (word : List Symbol) (trail : List ℕ) (to : ℕ) (x : Symbol) → FollowsTrail variables symbols n vertex word trail to →
+    IsNextBy variables symbols n to x None → FollowsTrail variables symbols n vertex (word ++ x ∷ []) trail to
 follows-stay variables symbols n vertex [] trail to x f none =
     inl (subst (λ u. IsNextBy variables symbols n u x None) (sym f.1) none, f)
 follows-stay variables symbols n vertex (y ∷ word) trail to x (inl s) none = inl (s.0, follows-stay variables symbols n vertex word trail to x s.1 none)
@@ -21,8 +21,8 @@ follows-stay variables symbols n vertex (y ∷ word) trail to x (inr g) none =
     let h = g.1.1 in
     inr (g.0, (g.1.0, (h.0, h.1, h.2, h.3, follows-stay variables symbols n h.0.edge.to word g.1.0 to x h.4 none)))
 
-pub follows-go : (variables : List Variable) (symbols : List Symbol) (n vertex : ℕ) (word : List Symbol) (trail : List ℕ) (to : ℕ) (x : Symbol) (k : ℕ) (v : Variable) → Follows variables symbols n vertex word trail to →
-    slice_get variables k ≡ Some v → LeadsToSymbol symbols n to x v → Follows variables symbols n vertex (word ++ x ∷ []) (trail ++ k ∷ []) v.edge.to
+pub follows-go : (variables : List Variable) (symbols : List Symbol) (n vertex : ℕ) (word : List Symbol) (trail : List ℕ) (to : ℕ) (x : Symbol) (k : ℕ) (v : Variable) → FollowsTrail variables symbols n vertex word trail to →
+    slice_get variables k ≡ Some v → LeadsToSymbol symbols n to x v → FollowsTrail variables symbols n vertex (word ++ x ∷ []) (trail ++ k ∷ []) v.edge.to
 follows-go variables symbols n vertex [] trail to x k v f e leads =
     inr (k, ([], (v, ap (λ ks. ks ++ k ∷ []) f.0, e, subst (λ u. LeadsToSymbol symbols n u x v) (sym f.1) leads, (refl, refl))))
 follows-go variables symbols n vertex (y ∷ word) trail to x k v (inl s) e leads = inl (s.0, follows-go variables symbols n vertex word trail to x k v s.1 e leads)
@@ -155,14 +155,14 @@ more-point size (k ∷ ks) = more-set (replicate size false) ks k ∙ ap (λ p. 
 
 pub record TakesTo (variables : List Variable) (symbols : List Symbol) (n : ℕ) (word : List Symbol) (old new : List Bool) (vertex : ℕ) : Type 0 where
   pub trail : List ℕ
-  pub follows : Follows variables symbols n 0 word trail vertex
+  pub follows : FollowsTrail variables symbols n 0 word trail vertex
   pub chosen : new ≡ with_more old trail
 
 pub takes-stay : (variables : List Variable) (symbols : List Symbol) (n : ℕ) (word longer : List Symbol) (old new : List Bool) (vertex : ℕ) (x : Symbol) → TakesTo variables symbols n word old new vertex → longer ≡ word ++ x ∷ [] →
     IsNextBy variables symbols n vertex x None → TakesTo variables symbols n longer old new vertex
 takes-stay variables symbols n word longer old new vertex x t more none = record {
   trail = t.trail;
-  follows = subst (λ w. Follows variables symbols n 0 w t.trail vertex) (sym more) (follows-stay variables symbols n 0 word t.trail vertex x t.follows none);
+  follows = subst (λ w. FollowsTrail variables symbols n 0 w t.trail vertex) (sym more) (follows-stay variables symbols n 0 word t.trail vertex x t.follows none);
   chosen = t.chosen;
 }
 
@@ -170,8 +170,8 @@ pub takes-go : (variables : List Variable) (symbols : List Symbol) (n : ℕ) (wo
     slice_get variables k ≡ Some v → LeadsToSymbol symbols n vertex x v → to ≡ v.edge.to → newer ≡ slice_set new k true → TakesTo variables symbols n longer old newer to
 takes-go variables symbols n word longer old new newer vertex to x k v t more e leads is set = record {
   trail = t.trail ++ k ∷ [];
-  follows = subst (λ w. Follows variables symbols n 0 w (t.trail ++ k ∷ []) to) (sym more)
-      (subst (Follows variables symbols n 0 (word ++ x ∷ []) (t.trail ++ k ∷ [])) (sym is) (follows-go variables symbols n 0 word t.trail vertex x k v t.follows e leads));
+  follows = subst (λ w. FollowsTrail variables symbols n 0 w (t.trail ++ k ∷ []) to) (sym more)
+      (subst (FollowsTrail variables symbols n 0 (word ++ x ∷ []) (t.trail ++ k ∷ [])) (sym is) (follows-go variables symbols n 0 word t.trail vertex x k v t.follows e leads));
   chosen = set ∙ ap (λ p. slice_set p k true) t.chosen ∙ sym (more-append old t.trail (k ∷ []));
 }
 
@@ -185,8 +185,8 @@ no-symbols variables symbols n [] point h = record { trail = []; to = 0; follows
 no-symbols variables symbols n (x ∷ walk) point h = absurd (omega arith)
 
 trails-snoc : (variables : List Variable) (n : ℕ) (symbols walks : List (List Symbol)) (trails : List (List ℕ)) (first walk : List Symbol) (trail : List ℕ) (to m : ℕ) → TrailsOf variables n symbols walks trails → m ≡ n + length walks →
-    Follows variables first m 0 (drop 1 walk) trail to → TrailsOf variables n (symbols ++ first ∷ []) (walks ++ walk ∷ []) (trails ++ trail ∷ [])
-trails-snoc variables n [] [] [] first walk trail to m t e f = ((to, subst (λ x. Follows variables first x 0 (drop 1 walk) trail to) (let s : m ≡ n = omega arith in s) f), tt)
+    FollowsTrail variables first m 0 (drop 1 walk) trail to → TrailsOf variables n (symbols ++ first ∷ []) (walks ++ walk ∷ []) (trails ++ trail ∷ [])
+trails-snoc variables n [] [] [] first walk trail to m t e f = ((to, subst (λ x. FollowsTrail variables first x 0 (drop 1 walk) trail to) (let s : m ≡ n = omega arith in s) f), tt)
 trails-snoc variables n (g ∷ symbols) (w ∷ walks) (ks ∷ trails) first walk trail to m t e f = (t.0, trails-snoc variables (n + 1) symbols walks trails first walk trail to m t.1 (omega (arith, e)) f)
 trails-snoc variables n [] (w ∷ walks) [] first walk trail to m t e f = absurd t
 trails-snoc variables n [] (w ∷ walks) (ks ∷ trails) first walk trail to m t e f = absurd t

@@ -8,11 +8,11 @@ use Rattle.cutoff_program.specs.Trails.{edges_of}
 use Rattle.program_walks.specs.declared.paths.LeastPath.{LeastPath}
 use Rattle.program_walks.specs.Paths.{IsLeastPath, IsLeastPathIf}
 use Rattle.program_walks.specs.Marks.{with_more}
-use Rattle.program_walks.specs.Solutions.{IsPathWithin, IsPathIf, TakesPath, ArePathsIf, TakesPaths}
+use Rattle.program_walks.specs.Solutions.{IsChosenPath, IsPathIf, TakesPath, ArePathsIf, TakesPaths}
 use Rattle.program_walks.proofs.Leasts.{path-below}
 use Rattle.program_walks.proofs.Marked.{more-append, more-length, edges-snoc, replicate-length}
 
-pub within : (problem : Problem) (taken : List Bool) (n : ℕ) (flow : Flow) (found : LeastPath) → IsLeastPath problem taken n flow found → IsPathWithin problem taken n flow found.path
+pub within : (problem : Problem) (taken : List Bool) (n : ℕ) (flow : Flow) (found : LeastPath) → IsLeastPath problem taken n flow found → IsChosenPath problem taken n flow found.path
 within problem taken n flow found l = record { is_path = l.is_path; chosen = l.chosen }
 
 pub found-below : (problem : Problem) (taken : List Bool) (n : ℕ) (flow : Flow) (found : Option LeastPath) (p : LeastPath) (size : ℕ) → IsLeastPathIf problem taken n flow found → found ≡ Some p → size ≡ length (variables_of problem) → AllByRecursion (λ k. k < size) p.path

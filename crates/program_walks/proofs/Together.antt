@@ -20,7 +20,7 @@ use Rattle.cutoff_program.specs.declared.flow.Problem.{Problem}
 use Rattle.cutoff_program.specs.declared.flow.Variable.{Variable}
 use Rattle.cutoff_program.specs.Limits.{IsProblem}
 use Rattle.cutoff_program.specs.Trails.{IsTrailOf, IsNeat, ArePathsFrom, AreTrailsFrom, edges_of, point_with, sum_along, loads_along, value_along, FitsCapacities}
-use Rattle.cutoff_program.specs.Products.{IsProduct}
+use Rattle.cutoff_program.specs.Products.{IsProductOfHosts}
 use Rattle.cutoff_program.specs.Walks.{IsFlowOf, CrossesAlike}
 use Rattle.cutoff_program.proofs.Lists.{all_left, all_right, all_both, some_some}
 use Rattle.cutoff_program.proofs.Values.{AreNoMore, lower-value}
@@ -31,7 +31,7 @@ use Rattle.cutoff_program.proofs.Bridge.{last-of}
 use Rattle.cutoff_program.proofs.Forth.{is_point, neat, loads-no_more, fits-no_more}
 use Rattle.cutoff_program.proofs.Back.{chosen-sums}
 use Rattle.cutoff_program.proofs.Loads.{CrossAlike, value-same, feasible-fits}
-use Rattle.program_walks.specs.Marks.{Follows, with_more, TrailsOf, TakeTrails}
+use Rattle.program_walks.specs.Marks.{FollowsTrail, with_more, TrailsOf, TakeTrails}
 use Rattle.program_walks.specs.Solutions.{IsPathIf, ArePathsIf, TakesPaths, IsFlowWith, AreFlowsWith, IsLaidOut, IsPointFor}
 use Rattle.program_walks.proofs.Leasts.{path-below}
 use Rattle.program_walks.proofs.Marked.{more-chosen, more-most, more-point, nothing-taken, replicate-length}
@@ -45,7 +45,7 @@ module _ (net : Network) (policy : Policy) (automata : ℕ → SymbolAutomaton) 
 
   -- what an allowed walk takes is a trail of its flow
   pub walk-trail : (variables : List Variable) (n : ℕ) (flow : Flow) (ends : Ends) (symbols : List Symbol) (walk : List Symbol) (trail : List ℕ) (to : ℕ) → IsFlowWith net policy automata ends flow symbols → IsFlowAt variables n flow →
-      IsWalk net ends.src ends.dst walk → IsOnPath policy ends.statement walk → Follows variables symbols n 0 (drop 1 walk) trail to → HasTrailBy variables n flow ends walk trail
+      IsWalk net ends.src ends.dst walk → IsOnPath policy ends.statement walk → FollowsTrail variables symbols n 0 (drop 1 walk) trail to → HasTrailBy variables n flow ends walk trail
   walk-trail variables n flow ends symbols walk trail to with_symbols at_flow is_walk on follows = from walk (walk-goes_on net ends.src ends.dst walk is_walk) accepted follows
     where
       of : IsFlowOf net policy automata ends flow
@@ -60,10 +60,10 @@ module _ (net : Network) (policy : Policy) (automata : ℕ → SymbolAutomaton) 
       accepted : a.accepts (ending_state a 0 walk) ≡ true
       accepted = (of.automaton.recognises walk is_walk.symbols).1 (subst (λ p. InLanguage p walk) (some_some (sym on.has ∙ of.automaton.has)) on.described)
 
-      find : (rest : List Symbol) → GoesOn net ends.dst (at ends.src) rest → a.accepts (ending_state a (a.step 0 (at ends.src)) rest) ≡ true → Follows variables symbols n 0 rest trail to → HasTrailBy variables n flow ends (at ends.src ∷ rest) trail
+      find : (rest : List Symbol) → GoesOn net ends.dst (at ends.src) rest → a.accepts (ending_state a (a.step 0 (at ends.src)) rest) ≡ true → FollowsTrail variables symbols n 0 rest trail to → HasTrailBy variables n flow ends (at ends.src ∷ rest) trail
       find rest goes accepts follows = by of.is_product
         where
-          by : IsProduct net a ends.src ends.dst of.product → HasTrailBy variables n flow ends (at ends.src ∷ rest) trail
+          by : IsProductOfHosts net a ends.src ends.dst of.product → HasTrailBy variables n flow ends (at ends.src ∷ rest) trail
           by (inl cut) = let w = word-way net a ends.dst (start_of a ends.src) rest goes accepts in absurd (cut.none w.way w.leads)
           by (inr trimmed) =
               let w = word-way net a ends.dst (start_of a ends.src) rest goes accepts in
@@ -76,7 +76,7 @@ module _ (net : Network) (policy : Policy) (automata : ℕ → SymbolAutomaton) 
                 few = let h = t.few in omega (arith, h);
               }
 
-      from : (w : List Symbol) → WalksFrom net ends.src ends.dst w → a.accepts (ending_state a 0 w) ≡ true → Follows variables symbols n 0 (drop 1 w) trail to → HasTrailBy variables n flow ends w trail
+      from : (w : List Symbol) → WalksFrom net ends.src ends.dst w → a.accepts (ending_state a 0 w) ≡ true → FollowsTrail variables symbols n 0 (drop 1 w) trail to → HasTrailBy variables n flow ends w trail
       from [] h e f = absurd h
       from (x ∷ rest) h e f =
           subst (λ y. HasTrailBy variables n flow ends (y ∷ rest) trail) (sym h.0)

@@ -22,7 +22,7 @@ use Rattle.cutoff_program.specs.declared.flow.Problem.{Problem}
 use Rattle.cutoff_program.specs.declared.flow.Variable.{Variable}
 use Rattle.cutoff_program.specs.Limits.{IsProblem}
 use Rattle.cutoff_program.specs.Trails.{IsPath, ArePathsFrom, edges_of, point_with, sum_along, comes_to}
-use Rattle.cutoff_program.specs.Products.{IsProduct}
+use Rattle.cutoff_program.specs.Products.{IsProductOfHosts}
 use Rattle.cutoff_program.specs.Walks.{IsFlowOf, IsSimple, CrossesAlike, vertices_along}
 use Rattle.cutoff_program.proofs.Lists.{some_some, all_so, map_all}
 use Rattle.cutoff_program.proofs.Ways.{word-way}
@@ -31,7 +31,7 @@ use Rattle.cutoff_program.proofs.Forth.{sum-is}
 use Rattle.cutoff_program.proofs.Sums.{taken-most}
 use Rattle.cutoff_program.proofs.Loads.{CrossAlike, length-of, loads-of}
 use Rattle.cutoff_program.proofs.Variables.{costs-small, over-small}
-use Rattle.program_walks.specs.Marks.{Follows}
+use Rattle.program_walks.specs.Marks.{FollowsTrail}
 use Rattle.program_walks.specs.Solutions.{IsFlowWith, AreFlowsWith, IsLaidOut}
 use Rattle.program_walks.specs.Loads.{load_by, load_on_link, cost_on_link, ratio_on_link, value_as, value_by_walks, AreSmallLoads, AreSimpleWalks}
 use Rattle.program_walks.proofs.Leasts.{small-sum}
@@ -103,11 +103,11 @@ module _ (net : Network) (policy : Policy) (automata : ℕ → SymbolAutomaton) 
       accepted : a.accepts (ending_state a 0 walk) ≡ true
       accepted = (of.automaton.recognises walk is_walk.symbols).1 (subst (λ p. InLanguage p walk) (some_some (sym on.has ∙ of.automaton.has)) on.described)
 
-      find : (rest : List Symbol) → GoesOn net ends.dst (at ends.src) rest → a.accepts (ending_state a (a.step 0 (at ends.src)) rest) ≡ true → (trail : List ℕ) (to : ℕ) → Follows variables symbols n 0 rest trail to →
+      find : (rest : List Symbol) → GoesOn net ends.dst (at ends.src) rest → a.accepts (ending_state a (a.step 0 (at ends.src)) rest) ≡ true → (trail : List ℕ) (to : ℕ) → FollowsTrail variables symbols n 0 rest trail to →
           AreDifferent (vertices_along a 0 (at ends.src ∷ rest)) → AreDifferent (0 ∷ comes_to variables trail)
       find rest goes accepts trail to follows apart = by of.is_product
         where
-          by : IsProduct net a ends.src ends.dst of.product → AreDifferent (0 ∷ comes_to variables trail)
+          by : IsProductOfHosts net a ends.src ends.dst of.product → AreDifferent (0 ∷ comes_to variables trail)
           by (inl cut) = let w = word-way net a ends.dst (start_of a ends.src) rest goes accepts in absurd (cut.none w.way w.leads)
           by (inr trimmed) =
               let w = word-way net a ends.dst (start_of a ends.src) rest goes accepts in
@@ -115,7 +115,7 @@ module _ (net : Network) (policy : Policy) (automata : ℕ → SymbolAutomaton) 
               (follow-path net a ends.src ends.dst rate n variables of.product laid of.hosts.dst symbols with_symbols.symbols_are rest 0 (start_of a ends.src) trail to refl
               (record { before = []; reached = refl; after = w.way; leads = w.leads }) goes accepts follows apart).different
 
-      from : (w : List Symbol) → WalksFrom net ends.src ends.dst w → a.accepts (ending_state a 0 w) ≡ true → (trail : List ℕ) (to : ℕ) → Follows variables symbols n 0 (drop 1 w) trail to → AreDifferent (vertices_along a 0 w) → AreDifferent (0 ∷ comes_to variables trail)
+      from : (w : List Symbol) → WalksFrom net ends.src ends.dst w → a.accepts (ending_state a 0 w) ≡ true → (trail : List ℕ) (to : ℕ) → FollowsTrail variables symbols n 0 (drop 1 w) trail to → AreDifferent (vertices_along a 0 w) → AreDifferent (0 ∷ comes_to variables trail)
       from [] h e trail to f apart = absurd h
       from (x ∷ rest) h e trail to f apart =
           find rest (subst (λ y. GoesOn net ends.dst y rest) h.0 h.4) (ap (λ y. a.accepts (ending_state a (a.step 0 y) rest)) (sym h.0) ∙ e) trail to f

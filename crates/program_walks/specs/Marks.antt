@@ -22,11 +22,11 @@ IsNextBy variables symbols n vertex x next =
     (λ k. (v : Variable) × (slice_get variables k ≡ Some v) × LeadsToSymbol symbols n vertex x v)
 
 -- Symbols lead from a vertex to another over these variables. A symbol that no variable leads to is a turn, which stays.
-abbrev pub Follows : List Variable → List Symbol → ℕ → ℕ → List Symbol → List ℕ → ℕ → Type 0
-Follows variables symbols n vertex [] trail to = (trail ≡ []) × (vertex ≡ to)
-Follows variables symbols n vertex (x ∷ word) trail to =
-    (IsNextBy variables symbols n vertex x None × Follows variables symbols n vertex word trail to)
-    ⊎ ((k : ℕ) × ((rest : List ℕ) × ((v : Variable) × (trail ≡ k ∷ rest) × (slice_get variables k ≡ Some v) × LeadsToSymbol symbols n vertex x v × Follows variables symbols n v.edge.to word rest to)))
+abbrev pub FollowsTrail : List Variable → List Symbol → ℕ → ℕ → List Symbol → List ℕ → ℕ → Type 0
+FollowsTrail variables symbols n vertex [] trail to = (trail ≡ []) × (vertex ≡ to)
+FollowsTrail variables symbols n vertex (x ∷ word) trail to =
+    (IsNextBy variables symbols n vertex x None × FollowsTrail variables symbols n vertex word trail to)
+    ⊎ ((k : ℕ) × ((rest : List ℕ) × ((v : Variable) × (trail ≡ k ∷ rest) × (slice_get variables k ≡ Some v) × LeadsToSymbol symbols n vertex x v × FollowsTrail variables symbols n v.edge.to word rest to)))
 
 -- a point with some more places at 1
 abbrev pub with_more : List Bool → List ℕ → List Bool
@@ -37,14 +37,14 @@ with_more point (k ∷ ks) = with_more (slice_set point k true) ks
 pub record TakesTrail (variables : List Variable) (symbols : List Symbol) (n : ℕ) (word : List Symbol) (old new : List Bool) : Type 0 where
   pub trail : List ℕ
   pub to : ℕ
-  pub follows : Follows variables symbols n 0 word trail to
+  pub follows : FollowsTrail variables symbols n 0 word trail to
   pub chosen : new ≡ with_more old trail
 
 -- the trails that walks take, the first of which is that of flow n
 abbrev pub TrailsOf : List Variable → ℕ → List (List Symbol) → List (List Symbol) → List (List ℕ) → Type 0
 TrailsOf variables n [] [] [] = Unit {0}
 TrailsOf variables n (first ∷ symbols) (walk ∷ walks) (trail ∷ trails) =
-    ((to : ℕ) × Follows variables first n 0 (drop 1 walk) trail to) × TrailsOf variables (n + 1) symbols walks trails
+    ((to : ℕ) × FollowsTrail variables first n 0 (drop 1 walk) trail to) × TrailsOf variables (n + 1) symbols walks trails
 TrailsOf variables n _ _ _ = ⊥
 
 -- exactly the variables that walks take are chosen

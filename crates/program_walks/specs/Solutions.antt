@@ -21,13 +21,13 @@ use Rattle.program_walks.specs.Paths.{IsChosenIn}
 use Rattle.program_walks.specs.Marks.{with_more, symbol_in}
 
 -- a path of the flow over chosen variables, or nothing where no trail leads to its end
-pub record IsPathWithin (problem : Problem) (taken : List Bool) (n : ℕ) (flow : Flow) (path : List ℕ) : Type 0 where
+pub record IsChosenPath (problem : Problem) (taken : List Bool) (n : ℕ) (flow : Flow) (path : List ℕ) : Type 0 where
   pub is_path : IsPath (variables_of problem) n path 0 (last_of flow)
   pub chosen : AllByRecursion (IsChosenIn taken) path
 
 abbrev pub IsPathIf : Problem → List Bool → ℕ → Flow → List ℕ → Type 0
 IsPathIf problem taken n flow path =
-    IsPathWithin problem taken n flow path
+    IsChosenPath problem taken n flow path
     ⊎ ((path ≡ []) × ((trail : List ℕ) → ¬ IsTrailThrough problem (IsChosenIn taken) n flow trail))
 
 -- the variables of such a path are chosen too
@@ -102,7 +102,7 @@ word_over variables symbols path = map (symbol_in symbols) (0 ∷ comes_to varia
 -- the word of a path of the flow over chosen variables, or an empty one where no trail leads to its end
 abbrev pub IsWordIf : Problem → List Bool → ℕ → Flow → List Symbol → List Symbol → Type 0
 IsWordIf problem point n flow symbols walk =
-    ((path : List ℕ) × IsPathWithin problem point n flow path × (walk ≡ word_over (variables_of problem) symbols path))
+    ((path : List ℕ) × IsChosenPath problem point n flow path × (walk ≡ word_over (variables_of problem) symbols path))
     ⊎ ((trail : List ℕ) → ¬ IsTrailThrough problem (IsChosenIn point) n flow trail)
 
 abbrev pub IsWordAt : Problem → List Bool → ℕ → List Symbol → List Symbol → Type 0

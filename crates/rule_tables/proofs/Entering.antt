@@ -23,7 +23,7 @@ use Rattle.rule_tables.specs.declared.branches.Branch.{Branch}
 use Rattle.rule_tables.specs.declared.branches.GroupBranches.{GroupBranches}
 use Rattle.rule_tables.specs.declared.branches.OwnedCell.{OwnedCell}
 use Rattle.rule_tables.specs.declared.hops.Hop.{Hop as MadeHop}
-use Rattle.rule_tables.specs.Branches.{key_of, vertex_in, vertex_at, next_at, LeadsOn, IsBranch, AreBranches}
+use Rattle.rule_tables.specs.Branches.{key_of, vertex_in, vertex_at, next_step_at, LeadsOn, IsBranch, AreBranches}
 use Rattle.rule_tables.specs.Hops.{CanHop, IsHopMade, table_hop}
 use Rattle.rule_tables.specs.Rows.{IsReady, tags_alone}
 use Rattle.rule_tables.specs.Entries.{attached_in, IsBetweenHosts, IsCellEntry}
@@ -107,7 +107,7 @@ module _ (net : Network) (ok : IsNetwork net) (of : List Group) (tags : List Lis
         pub first-is : (n : ℕ) → step.next ≡ Some n → IsFirst n
         first-is n next = by follow.0 follow.1 follow.2
           where
-            next_is : next_at branch.steps place.0 ≡ Some (Some n)
+            next_is : next_step_at branch.steps place.0 ≡ Some (Some n)
             next_is = ap (option_map (λ x. x.next)) place.1 ∙ ap Some next
 
             start : vertex_in step ≡ start_in of g s

@@ -6,7 +6,7 @@ use Rattle.rules_model.specs.Products.{Vertex, loc_of}
 use Rattle.rules_model.specs.Tables.{functions_here, onward}
 use Rattle.rule_tables.specs.declared.branches.Step.{Step}
 use Rattle.rule_tables.specs.declared.hops.Onward.{Onward}
-use Rattle.rule_tables.specs.Branches.{vertex_at, next_at, LeadsOn}
+use Rattle.rule_tables.specs.Branches.{vertex_at, next_step_at, LeadsOn}
 use Rattle.rule_tables.specs.Hops.{stands_at, functions_in, IsOnwardPlace, IsOnwardFrom}
 use Rattle.rule_tables.proofs.Leading.{some-same, none-some, leads-short}
 
@@ -52,13 +52,13 @@ module _ (steps : List Step) (loc : ℕ) (v : Vertex) (us : List Vertex) (place 
     abbrev Collected : List Vertex → Type 0
     Collected ws = functions ++ (functions_of going.w.symbol ++ functions_here loc ws) ≡ functions_of v.symbol ++ functions_here loc us
 
-    place-next : (n : ℕ) → next_at steps place ≡ Some (Some n) → (u : Vertex) (rest : List Vertex) (leads : LeadsOn steps place (u ∷ rest)) → (vertex_at steps n ≡ Some u) × LeadsOn steps n rest
+    place-next : (n : ℕ) → next_step_at steps place ≡ Some (Some n) → (u : Vertex) (rest : List Vertex) (leads : LeadsOn steps place (u ∷ rest)) → (vertex_at steps n ≡ Some u) × LeadsOn steps n rest
     place-next n next u rest leads =
         let same : leads.0 ≡ n = some-same (some-same (sym leads.1 ∙ next)) in
         (ap (vertex_at steps) (sym same) ∙ leads.2, subst (λ k. LeadsOn steps k rest) same leads.3)
 
     -- the next vertex is at the location too
-    pub going-more : (n : ℕ) → next_at steps place ≡ Some (Some n) → stands_at (vertex_at steps n) loc ≡ true → IsGoing steps loc v us n (i + 1) more
+    pub going-more : (n : ℕ) → next_step_at steps place ≡ Some (Some n) → stands_at (vertex_at steps n) loc ≡ true → IsGoing steps loc v us n (i + 1) more
     going-more n next is = by going.ws going.leads going.collected going.onward_is going.left
       where
         by : (ws : List Vertex) → LeadsOn steps place ws → Collected ws → onward loc ws ≡ onward loc us → length ws + i ≤ length us → IsGoing steps loc v us n (i + 1) more
@@ -82,7 +82,7 @@ module _ (steps : List Step) (loc : ℕ) (v : Vertex) (us : List Vertex) (place 
             }
 
     -- the frame goes on: the next vertex is elsewhere, or the end
-    going-stop : (next : Option ℕ) → ((m : Option ℕ) → next_at steps place ≡ Some m → next ≡ m) → ((n : ℕ) → next_at steps place ≡ Some (Some n) → stands_at (vertex_at steps n) loc ≡ false) →
+    going-stop : (next : Option ℕ) → ((m : Option ℕ) → next_step_at steps place ≡ Some m → next ≡ m) → ((n : ℕ) → next_step_at steps place ≡ Some (Some n) → stands_at (vertex_at steps n) loc ≡ false) →
         (more ≡ functions_of v.symbol ++ functions_here loc us) × IsOnwardPlace steps (onward loc us) next
     going-stop next is off = by going.ws going.leads going.collected going.onward_is
       where
@@ -104,7 +104,7 @@ module _ (steps : List Step) (loc : ℕ) (v : Vertex) (us : List Vertex) (place 
                   (subst (IsOnwardPlace steps (Some (u, rest))) (sym (is (Some leads.0) leads.1)) leads.2),
             )
 
-    pub onward-is : v.symbol.loc ≡ loc → (o : Onward) → o.functions ≡ more → ((m : Option ℕ) → next_at steps place ≡ Some m → o.next ≡ m) → ((n : ℕ) → next_at steps place ≡ Some (Some n) → stands_at (vertex_at steps n) loc ≡ false) → IsOnwardFrom steps v us o
+    pub onward-is : v.symbol.loc ≡ loc → (o : Onward) → o.functions ≡ more → ((m : Option ℕ) → next_step_at steps place ≡ Some m → o.next ≡ m) → ((n : ℕ) → next_step_at steps place ≡ Some (Some n) → stands_at (vertex_at steps n) loc ≡ false) → IsOnwardFrom steps v us o
     onward-is here o functions_are is off =
         let m = going-stop o.next is off in
         (functions_are ∙ m.0 ∙ ap (λ l. functions_of v.symbol ++ functions_here l us) (sym here), subst (λ l. IsOnwardPlace steps (onward l us) o.next) (sym here) m.1)

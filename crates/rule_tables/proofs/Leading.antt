@@ -6,7 +6,7 @@ use Rattle.std.proofs.lemmas.Map.Steps.{length-le_from_distinct_below}
 use Rattle.std.specs.List.{AllByRecursion, IsDistinct, list_any}
 use Rattle.rules_model.specs.Products.{Vertex}
 use Rattle.rule_tables.specs.declared.branches.Step.{Step}
-use Rattle.rule_tables.specs.Branches.{vertex_at, next_at, LeadsOn}
+use Rattle.rule_tables.specs.Branches.{vertex_at, next_step_at, LeadsOn}
 
 pub some-same : {X : Type 0} {a b : X} → Some a ≡ Some b → a ≡ b
 some-same e = cc
@@ -34,7 +34,7 @@ module _ (steps : List Step) where
   length-passed k [] h = refl
   length-passed k (u ∷ us) h = ap suc (length-passed h.0 us h.3)
 
-  next-within : (k : ℕ) (n : Option ℕ) → next_at steps k ≡ Some n → k < length steps
+  next-within : (k : ℕ) (n : Option ℕ) → next_step_at steps k ≡ Some n → k < length steps
   next-within k n e = by (slice_get steps k) refl e
     where
       by : (o : Option Step) → slice_get steps k ≡ o → option_map (λ step. step.next) o ≡ Some n → k < length steps

@@ -32,14 +32,14 @@ abbrev pub vertex_at : List Step → ℕ → Option Vertex
 vertex_at steps k = option_map vertex_in (slice_get steps k)
 
 -- the place of what follows the vertex at a place: none of itself is the end
-abbrev pub next_at : List Step → ℕ → Option (Option ℕ)
-next_at steps k = option_map (λ step. step.next) (slice_get steps k)
+abbrev pub next_step_at : List Step → ℕ → Option (Option ℕ)
+next_step_at steps k = option_map (λ step. step.next) (slice_get steps k)
 
 -- from place k these vertices follow, up to the end
 abbrev pub LeadsOn : List Step → ℕ → List Vertex → Type 0
-LeadsOn steps k [] = next_at steps k ≡ Some None
+LeadsOn steps k [] = next_step_at steps k ≡ Some None
 LeadsOn steps k (u ∷ us) =
-    (j : ℕ) × (next_at steps k ≡ Some (Some j)) × (vertex_at steps j ≡ Some u) × LeadsOn steps j us
+    (j : ℕ) × (next_step_at steps k ≡ Some (Some j)) × (vertex_at steps j ≡ Some u) × LeadsOn steps j us
 
 -- The vertices of the product of group g for a destination, all of them once, each with what follows
 -- it.

@@ -7,7 +7,7 @@ ghost use Rattle.merlin_model.specs.Networks.{Pairwise, from_a, from_b, directed
 ghost use Rattle.rules_model.specs.Products.{Vertex as PathVertex};
 ghost use Rattle.rules_model.specs.Tables.{IsBelowKey, tag_key_of};
 ghost use Rattle.product_graph.specs.Products.{vertex_of};
-ghost use Rattle.rule_tables.specs.Branches.{key_of, vertex_at, next_at, LeadsOn};
+ghost use Rattle.rule_tables.specs.Branches.{key_of, vertex_at, next_step_at, LeadsOn};
 ghost use Rattle.rule_tables.specs.Hops.{stands_at, functions_in, IsOnwardFrom, IsOnwardPlace, IsTagged, IsGoingOn};
 ghost use Rattle.rule_tables.specs.Hops.{CanHop, IsHopMade};
 
@@ -55,9 +55,9 @@ fn is_at(steps: &[Step], place: usize, loc: usize) -> bool
 
 /// The place that follows a place, if its vertex is at the location.
 fn next_here(steps: &[Step], place: usize, loc: usize) -> Option<usize>
-    ensures some { IfSome result (λ n. (next_at steps.now place ≡ Some (Some n))
+    ensures some { IfSome result (λ n. (next_step_at steps.now place ≡ Some (Some n))
         × (stands_at (vertex_at steps.now n) loc ≡ true)) }
-    ensures none { IfNone result ((n : ℕ) → next_at steps.now place ≡ Some (Some n) →
+    ensures none { IfNone result ((n : ℕ) → next_step_at steps.now place ≡ Some (Some n) →
         stands_at (vertex_at steps.now n) loc ≡ false) }
 {
     let step = at(steps, place)?;
@@ -71,7 +71,7 @@ fn next_here(steps: &[Step], place: usize, loc: usize) -> Option<usize>
 
 /// The place that follows a place. None is the end.
 fn next_of(steps: &[Step], place: usize) -> Option<usize>
-    ensures { (next : Option ℕ) → next_at steps.now place ≡ Some next → result ≡ next }
+    ensures { (next : Option ℕ) → next_step_at steps.now place ≡ Some next → result ≡ next }
 {
     let step = at(steps, place)?;
     step.next

@@ -69,6 +69,25 @@ IsUpTo u v =
     ⊎ ((loc_of u ≡ loc_of v) × ((function_place u.symbol.fun < function_place v.symbol.fun)
     ⊎ ((function_place u.symbol.fun ≡ function_place v.symbol.fun) × (u.state ≤ v.state))))
 
+-- the vertex comes before another one
+abbrev pub IsBefore : Vertex → Vertex → Type 0
+IsBefore u v =
+    (loc_of u < loc_of v)
+    ⊎ ((loc_of u ≡ loc_of v) × ((function_place u.symbol.fun < function_place v.symbol.fun)
+    ⊎ ((function_place u.symbol.fun ≡ function_place v.symbol.fun) × (u.state < v.state))))
+
+-- Edges of a product go by the places of their two vertices, in order.
+abbrev pub IsEdgeBefore : ℕ × ℕ → ℕ × ℕ → Type 0
+IsEdgeBefore e f = (e.0 < f.0) ⊎ ((e.0 ≡ f.0) × (e.1 < f.1))
+
+-- an edge leads from the vertex at the first place to that at the second, or to the end, which
+-- stands after these vertices
+abbrev pub IsJoined : Network → SymbolAutomaton → ℕ → List Vertex → ℕ × ℕ → Type 0
+IsJoined net a d inside e =
+    (v : Vertex) × (slice_get inside e.0 ≡ Some v)
+    × (((u : Vertex) × (slice_get inside e.1 ≡ Some u) × IsEdge net a v u)
+    ⊎ ((e.1 ≡ length inside) × IsLast net a d v))
+
 -- u is the next vertex after v in the sink tree: of those that v has an edge to, it is among the
 -- ones with the fewest edges to the end, and of these the least. The vertices us lead from u to the
 -- end.

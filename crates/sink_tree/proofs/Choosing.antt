@@ -4,7 +4,7 @@ use Rattle.std.specs.Prelude.{⊤}
 use Rattle.std.specs.List.{AllByRecursion}
 use Rattle.std.proofs.lemmas.List.{length-set, get_or-set_same, get_or-set_other}
 use Rattle.merlin_model.proofs.Members.{In, in_from, in_to, in_append, in_append-left, in_append-right}
-use Rattle.sink_tree.specs.Nearest.{steps_at, IsNoWorse, IsBetter, IsChosen, IsNearest}
+use Rattle.sink_tree.specs.Nearest.{steps_at, IsNoWorse, IsNearer, IsChosen, IsNearest}
 use Rattle.sink_tree.proofs.Places.{same-or-not}
 
 lt-or-le : (a b : ℕ) → (a < b) ⊎ (b ≤ a)
@@ -60,7 +60,7 @@ module _ (distance : List (Option ℕ)) (done : List (ℕ × ℕ)) (from to : �
   itself : (x : ℕ) → x ≡ to → IsNoWorse distance to x
   itself x e = inr (ap (steps_at distance) (sym e), omega (arith, e))
 
-  taken : (o : Option ℕ) → IsBetter distance o to → IsNearest distance done from o → IsNearest distance (done ++ (from, to) ∷ []) from (Some to)
+  taken : (o : Option ℕ) → IsNearer distance o to → IsNearest distance done from o → IsNearest distance (done ++ (from, to) ∷ []) from (Some to)
   taken None better h = (own, λ x there. by x (members from x there))
     where
       by : (x : ℕ) → Contains done (from, x) ⊎ ((from ≡ from) × (x ≡ to)) → IsNoWorse distance to x
@@ -72,7 +72,7 @@ module _ (distance : List (Option ℕ)) (done : List (ℕ × ℕ)) (from to : �
       by x (inl old) = no-worse-after (steps_at distance to) (steps_at distance w) (steps_at distance x) to w x better (h.1 x old)
       by x (inr new) = itself x new.1
 
-  left : (o : Option ℕ) → (IsBetter distance o to → ⊥) → IsNearest distance done from o → IsNearest distance (done ++ (from, to) ∷ []) from o
+  left : (o : Option ℕ) → (IsNearer distance o to → ⊥) → IsNearest distance done from o → IsNearest distance (done ++ (from, to) ∷ []) from o
   left None worse h = absurd (worse tt)
   left (Some w) worse h = (more from w h.0, λ x there. by x (members from x there))
     where

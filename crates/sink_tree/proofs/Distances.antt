@@ -5,11 +5,11 @@ use Rattle.std.proofs.lemmas.List.Sums.{sum_by-cons, sum_by-append}
 use Rattle.merlin_model.proofs.Members.{in_from, in_to}
 use Rattle.graph_search.specs.declared.graph.Edge.{Edge}
 use Rattle.graph_search.specs.declared.paths.Potentials.{Potentials}
-use Rattle.graph_search.specs.Graphs.{known_at, IsPath, cost_of_edge, cost_of_path, cost_of_all, ArePotentials}
-use Rattle.sink_tree.specs.Backwards.{turned_edge, turned_edges}
+use Rattle.graph_search.specs.Graphs.{known_at, IsEdgePath, cost_of_edge, cost_of_path, cost_of_all, ArePotentials}
+use Rattle.sink_tree.specs.Backwards.{turned_pair, turned_edges}
 use Rattle.sink_tree.proofs.Places.{some-same, get-in, in-get, get-map, map-get}
 
-path-snoc : (es : List Edge) (u : ℕ) (path : List ℕ) (v k : ℕ) (e : Edge) → IsPath es u path v → slice_get es k ≡ Some e → e.from ≡ v → IsPath es u (path ++ k ∷ []) e.to
+path-snoc : (es : List Edge) (u : ℕ) (path : List ℕ) (v k : ℕ) (e : Edge) → IsEdgePath es u path v → slice_get es k ≡ Some e → e.from ≡ v → IsEdgePath es u (path ++ k ∷ []) e.to
 path-snoc es u [] v k e p at from = (e, at, from ∙ sym p, refl)
 path-snoc es u (j ∷ path) v k e p at from = (p.0, p.1, p.2, path-snoc es p.0.to path v k e p.3 at from)
 
@@ -30,10 +30,10 @@ record HasLast (es : List Edge) (u v cost : ℕ) : Type 0 where
   edge : Edge
   there : slice_get es number ≡ Some edge
   ends : edge.to ≡ v
-  path : IsPath es u rest edge.from
+  path : IsEdgePath es u rest edge.from
   costs : cost_of_path es rest + edge.cost ≡ cost
 
-last-of : (es : List Edge) (u k : ℕ) (path : List ℕ) (v : ℕ) → IsPath es u (k ∷ path) v → HasLast es u v (cost_of_path es (k ∷ path))
+last-of : (es : List Edge) (u k : ℕ) (path : List ℕ) (v : ℕ) → IsEdgePath es u (k ∷ path) v → HasLast es u v (cost_of_path es (k ∷ path))
 last-of es u k [] v p = record {
   rest = [];
   number = k;
@@ -64,8 +64,8 @@ last-of es u k (j ∷ path) v p =
 
 module _ (n : ℕ) (edges : List (ℕ × ℕ)) (end : ℕ) (p : Potentials) (known : ArePotentials n (turned_edges edges) end p) where
   -- the edge as it stands turned round
-  turned : (v u : ℕ) → Contains edges (v, u) → (k : ℕ) × (slice_get (turned_edges edges) k ≡ Some (turned_edge (v, u)))
-  turned v u there = let k = in-get edges (v, u) (in_from edges (v, u) there) in (k.0, get-map turned_edge edges k.0 (v, u) k.1)
+  turned : (v u : ℕ) → Contains edges (v, u) → (k : ℕ) × (slice_get (turned_edges edges) k ≡ Some (turned_pair (v, u)))
+  turned v u there = let k = in-get edges (v, u) (in_from edges (v, u) there) in (k.0, get-map turned_pair edges k.0 (v, u) k.1)
 
   pub at-end : known_at p.distance end ≡ Some 0
   at-end = by (known_at p.distance end) refl
@@ -78,19 +78,19 @@ module _ (n : ℕ) (edges : List (ℕ × ℕ)) (end : ℕ) (p : Potentials) (kno
   pub one-more : (v u c : ℕ) → Contains edges (v, u) → known_at p.distance u ≡ Some c → (b : ℕ) × (known_at p.distance v ≡ Some b) × (b ≤ suc c)
   one-more v u c there d = by (turned v u there) (reverse (known.reached u c d).back) (known.reached u c d).path (known.reached u c d).costs (known_at p.distance v) refl
     where
-      by : (k : ℕ) × (slice_get (turned_edges edges) k ≡ Some (turned_edge (v, u))) → (path : List ℕ) → IsPath (turned_edges edges) end path u → cost_of_path (turned_edges edges) path ≡ c →
+      by : (k : ℕ) × (slice_get (turned_edges edges) k ≡ Some (turned_pair (v, u))) → (path : List ℕ) → IsEdgePath (turned_edges edges) end path u → cost_of_path (turned_edges edges) path ≡ c →
           (o : Option ℕ) → known_at p.distance v ≡ o → (b : ℕ) × (known_at p.distance v ≡ Some b) × (b ≤ suc c)
-      by k path leads costs None e = absurd ((known.unreached v e).1 (path ++ k.0 ∷ []) (path-snoc (turned_edges edges) end path u k.0 (turned_edge (v, u)) leads k.1 refl))
+      by k path leads costs None e = absurd ((known.unreached v e).1 (path ++ k.0 ∷ []) (path-snoc (turned_edges edges) end path u k.0 (turned_pair (v, u)) leads k.1 refl))
       by k path leads costs (Some b) e =
-          let le : b ≤ cost_of_path (turned_edges edges) (path ++ k.0 ∷ []) = (known.reached v b e).least (path ++ k.0 ∷ []) (path-snoc (turned_edges edges) end path u k.0 (turned_edge (v, u)) leads k.1 refl) in
-          let price : cost_of_path (turned_edges edges) (path ++ k.0 ∷ []) ≡ cost_of_path (turned_edges edges) path + 1 = cost-snoc (turned_edges edges) path k.0 (turned_edge (v, u)) k.1 in
+          let le : b ≤ cost_of_path (turned_edges edges) (path ++ k.0 ∷ []) = (known.reached v b e).least (path ++ k.0 ∷ []) (path-snoc (turned_edges edges) end path u k.0 (turned_pair (v, u)) leads k.1 refl) in
+          let price : cost_of_path (turned_edges edges) (path ++ k.0 ∷ []) ≡ cost_of_path (turned_edges edges) path + 1 = cost-snoc (turned_edges edges) path k.0 (turned_pair (v, u)) k.1 in
           (b, e, omega (arith, le, price, costs))
 
   -- and there is an edge after which there is one less
   pub one-less : (v c : ℕ) → known_at p.distance v ≡ Some c → v ≢ end → (u : ℕ) × ((b : ℕ) × (Contains edges (v, u) × (known_at p.distance u ≡ Some b) × (c ≡ suc b)))
   one-less v c d other = by (reverse (known.reached v c d).back) (known.reached v c d).path (known.reached v c d).costs
     where
-      closed : (u cost : ℕ) → Contains edges (v, u) → (path : List ℕ) → IsPath (turned_edges edges) end path u → cost_of_path (turned_edges edges) path + 1 ≡ c →
+      closed : (u cost : ℕ) → Contains edges (v, u) → (path : List ℕ) → IsEdgePath (turned_edges edges) end path u → cost_of_path (turned_edges edges) path + 1 ≡ c →
           (o : Option ℕ) → known_at p.distance u ≡ o → (b : ℕ) × (Contains edges (v, u) × (known_at p.distance u ≡ Some b) × (c ≡ suc b))
       closed u cost there path leads costs None e = absurd ((known.unreached u e).1 path leads)
       closed u cost there path leads costs (Some b) e =
@@ -102,15 +102,15 @@ module _ (n : ℕ) (edges : List (ℕ × ℕ)) (end : ℕ) (p : Potentials) (kno
 
       step : (cost : ℕ) → cost ≡ c → HasLast (turned_edges edges) end v cost → (u : ℕ) × ((b : ℕ) × (Contains edges (v, u) × (known_at p.distance u ≡ Some b) × (c ≡ suc b)))
       step cost costs h =
-          let x = map-get turned_edge edges h.number h.edge h.there in
+          let x = map-get turned_pair edges h.number h.edge h.there in
           let from : x.0.0 ≡ v = ap (λ y. y.to) x.2 ∙ h.ends in
           let there : Contains edges (v, x.0.1) = subst (λ w. Contains edges (w, x.0.1)) from (in_to edges x.0 (get-in edges h.number x.0 x.1)) in
-          let path : IsPath (turned_edges edges) end h.rest x.0.1 = subst (IsPath (turned_edges edges) end h.rest) (sym (ap (λ y. y.from) x.2)) h.path in
+          let path : IsEdgePath (turned_edges edges) end h.rest x.0.1 = subst (IsEdgePath (turned_edges edges) end h.rest) (sym (ap (λ y. y.from) x.2)) h.path in
           let one : h.edge.cost ≡ 1 = sym (ap (λ y. y.cost) x.2) in
           let paid = h.costs in
           (x.0.1, closed x.0.1 cost there h.rest path (omega (arith, one, paid, costs)) (known_at p.distance x.0.1) refl)
 
-      by : (path : List ℕ) → IsPath (turned_edges edges) end path v → cost_of_path (turned_edges edges) path ≡ c → (u : ℕ) × ((b : ℕ) × (Contains edges (v, u) × (known_at p.distance u ≡ Some b) × (c ≡ suc b)))
+      by : (path : List ℕ) → IsEdgePath (turned_edges edges) end path v → cost_of_path (turned_edges edges) path ≡ c → (u : ℕ) × ((b : ℕ) × (Contains edges (v, u) × (known_at p.distance u ≡ Some b) × (c ≡ suc b)))
       by [] leads costs = absurd (other (sym leads))
       by (k ∷ path) leads costs = step (cost_of_path (turned_edges edges) (k ∷ path)) costs (last-of (turned_edges edges) end k path v leads)
 
@@ -118,6 +118,6 @@ module _ (n : ℕ) (edges : List (ℕ × ℕ)) (end : ℕ) (p : Potentials) (kno
 pub costs-all : (edges : List (ℕ × ℕ)) → cost_of_all (turned_edges edges) ≡ length edges
 costs-all [] = refl
 costs-all (e ∷ edges) =
-    let first : cost_of_all (turned_edges (e ∷ edges)) ≡ 1 + cost_of_all (turned_edges edges) = sum_by-cons (λ x. x.cost) (turned_edge e) (turned_edges edges) in
+    let first : cost_of_all (turned_edges (e ∷ edges)) ≡ 1 + cost_of_all (turned_edges edges) = sum_by-cons (λ x. x.cost) (turned_pair e) (turned_edges edges) in
     let rest = costs-all edges in
     omega (arith, first, rest)

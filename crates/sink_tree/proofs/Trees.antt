@@ -4,12 +4,12 @@ use Rattle.std.specs.Option.{unwrap_or}
 use Rattle.merlin_model.specs.Networks.{Network, IsHost}
 use Rattle.merlin_model.specs.Words.{at}
 use Rattle.merlin_model.proofs.Members.{in_to}
-use Rattle.rules_model.specs.Products.{SymbolAutomaton, Vertex, loc_of, IsEdge, IsLast, LeadsToEnd, IsUpTo, IsInTree}
+use Rattle.rules_model.specs.Products.{SymbolAutomaton, Vertex, loc_of, IsEdge, IsLast, LeadsToEnd, IsUpTo, IsInTree, IsBefore}
 use Rattle.graph_search.specs.declared.paths.Potentials.{Potentials}
 use Rattle.graph_search.specs.Graphs.{known_at, ArePotentials}
 use Rattle.product_graph.specs.declared.span.Product.{Product}
 use Rattle.product_graph.specs.declared.span.Span2.{Span2}
-use Rattle.product_graph.specs.Products.{dest_of, vertices_of, IsBefore, IsTrimmed}
+use Rattle.product_graph.specs.Products.{dest_of, vertices_of, IsTrimmed}
 use Rattle.product_graph.proofs.Standing.{source-host, in-stands, stands-next, stands-at, not-end, joined-from}
 use Rattle.sink_tree.specs.Backwards.{turned_edges}
 use Rattle.sink_tree.specs.Nearest.{steps_at, IsNoWorse, IsNearest, AreNearest}

@@ -14,17 +14,17 @@ IsNoWorse distance u x =
     ⊎ ((steps_at distance u ≡ steps_at distance x) × (u ≤ x))
 
 -- nothing is known yet, or it is worse
-abbrev pub IsBetter : List (Option ℕ) → Option ℕ → ℕ → Type 0
-IsBetter distance None v = Unit {0}
-IsBetter distance (Some known) v =
+abbrev pub IsNearer : List (Option ℕ) → Option ℕ → ℕ → Type 0
+IsNearer distance None v = Unit {0}
+IsNearer distance (Some known) v =
     (steps_at distance v < steps_at distance known)
     ⊎ ((steps_at distance v ≡ steps_at distance known) × (v < known))
 
 -- the better one was taken
 abbrev pub IsChosen : List (Option ℕ) → ℕ → ℕ → List (Option ℕ) → List (Option ℕ) → Type 0
 IsChosen distance from to old new =
-    (IsBetter distance (slice_index_or old from None) to × (new ≡ slice_set old from (Some to)))
-    ⊎ ((¬ IsBetter distance (slice_index_or old from None) to) × (new ≡ old))
+    (IsNearer distance (slice_index_or old from None) to × (new ≡ slice_set old from (Some to)))
+    ⊎ ((¬ IsNearer distance (slice_index_or old from None) to) × (new ≡ old))
 
 -- both ends of each edge are among so many vertices
 abbrev pub AreAmong : ℕ → List (ℕ × ℕ) → Type 0

@@ -3,7 +3,7 @@
 ghost use Rattle.std.specs.Prelude.{◌≡◌, ◌<◌, ◌↔◌, length, replicate, None, MatchOption, ⊤};
 ghost use Rattle.std.specs.Prelude.{IfOk, IsTrue};
 ghost use Rattle.std.specs.List.{slice_index_or};
-ghost use Rattle.sink_tree.specs.Nearest.{steps_at, IsBetter, IsChosen, AreAmong, AreNearest};
+ghost use Rattle.sink_tree.specs.Nearest.{steps_at, IsNearer, IsChosen, AreAmong, AreNearest};
 
 use merlin_model::OutOfMemory;
 use sqlite_items::Items;
@@ -22,7 +22,7 @@ fn steps(distance: &[Option<u128>], vertex: usize) -> u128
 fn is_better(distance: &[Option<u128>], known: Option<usize>, vertex: usize) -> bool
     requires vertex { vertex < length distance.now }
     requires known { MatchOption known ⊤ (λ other. other < length distance.now) }
-    ensures { IsTrue result ↔ IsBetter distance.now known vertex }
+    ensures { IsTrue result ↔ IsNearer distance.now known vertex }
 {
     match known {
         None => true,

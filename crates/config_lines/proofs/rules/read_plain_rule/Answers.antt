@@ -2,7 +2,7 @@ use Rattle.std.proofs.Common.{◌∷◌, ◌++◌, ◌∙◌, ap, sym}
 use Rattle.std.specs.Prelude.{codes}
 use Rattle.std.specs.Fmt.{decimal}
 use Rattle.config_text.specs.Lines.{name_at, match_text}
-use Rattle.config_lines.specs.Courses.{actions_of}
+use Rattle.config_lines.specs.Courses.{course_actions}
 use Rattle.config_lines.proofs.Then.{within_double}
 use Rattle.config_lines.proofs.RuleParts.{parts, start, after_loc, after_priority, after_fits, from_loc, from_priority, from_fits, from_actions}
 use Rattle.config_lines.proofs.rules.read_plain_rule.Goals as goal
@@ -24,6 +24,6 @@ returns-in_err-course-clause-none c = rw c.from_residual-in_err-course.ensures (
 
 pub returns-clause-some : goal.returns-clause-some
 returns-clause-some c = (
-  c.in_ok-rest.ensures.some ∙ ap (λ z. codes "rule " ++ z) (c.in_ok-loc.ensures.some.0 ∙ ap (λ z. name_at c.args.net.now c.in_ok-loc.loc ++ 32 ∷ z) (c.in_ok-priority.ensures.some.0 ∙ ap (λ z. decimal c.in_ok-priority.priority ++ 32 ∷ z) (c.in_ok-fits.ensures.some.0 ∙ ap (λ z. match_text c.in_ok-fits.fits ++ 32 ∷ z) (c.in_ok-course.ensures.some.0)))) ∙ sym (parts c.args.net.now (record { loc = c.in_ok-loc.loc; priority = c.in_ok-priority.priority; fits = c.in_ok-fits.fits; actions = actions_of c.in_ok-course.course }) c.in_ok-course.rest.now),
+  c.in_ok-rest.ensures.some ∙ ap (λ z. codes "rule " ++ z) (c.in_ok-loc.ensures.some.0 ∙ ap (λ z. name_at c.args.net.now c.in_ok-loc.loc ++ 32 ∷ z) (c.in_ok-priority.ensures.some.0 ∙ ap (λ z. decimal c.in_ok-priority.priority ++ 32 ∷ z) (c.in_ok-fits.ensures.some.0 ∙ ap (λ z. match_text c.in_ok-fits.fits ++ 32 ∷ z) (c.in_ok-course.ensures.some.0)))) ∙ sym (parts c.args.net.now (record { loc = c.in_ok-loc.loc; priority = c.in_ok-priority.priority; fits = c.in_ok-fits.fits; actions = course_actions c.in_ok-course.course }) c.in_ok-course.rest.now),
   record { loc = c.in_ok-loc.ensures.some.1; priority = c.in_ok-priority.ensures.some.1.high; fits = c.in_ok-fits.ensures.some.1; actions = c.in_ok-course.ensures.some.1 },
 )

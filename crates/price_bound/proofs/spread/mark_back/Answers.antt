@@ -4,7 +4,7 @@ use Rattle.std.proofs.lemmas.Option.{slice_get_within, slice_get-get_or}
 use Rattle.graph_search.specs.Graphs.{GoesBack, known_at}
 use Rattle.graph_search.proofs.Places.{some-same}
 use Rattle.graph_search.specs.declared.graph.Edge.{Edge}
-use Rattle.price_bound.specs.declared.flow_graph.Step.{Step}
+use Rattle.price_bound.specs.declared.flow_graph.FlowStep.{FlowStep}
 use Rattle.price_bound.specs.Steps.{edges_in}
 use Rattle.price_bound.specs.Spreads.{IsMarked, variables_along}
 use Rattle.price_bound.proofs.Permitting.{no_step}
@@ -41,7 +41,7 @@ bounds-as_slice-number c =
     let i = c.back.invariant in
     let on = next-step (edges_in c.args.spread.now.graph.steps) c.args.spread.now.least.before 0 i.rest c.back.vertex c.in-Some.number i.goes (ap (λ (l : List (Option ℕ)). known_at l c.back.vertex) (sym c.as_slice.ensures) ∙ c.in-Some.is) in
     let s = step-at c.args.spread.now.graph.steps c.in-Some.number on.e on.stands in
-    subst (λ (l : List Step). c.in-Some.number < length l) (sym c.as_slice-in-Some.ensures) (slice_get_within c.args.spread.now.graph.steps c.in-Some.number s.0 s.1)
+    subst (λ (l : List FlowStep). c.in-Some.number < length l) (sym c.as_slice-in-Some.ensures) (slice_get_within c.args.spread.now.graph.steps c.in-Some.number s.0 s.1)
 
 pub offset_bounds-as_slice-number : goal.offset_bounds-as_slice-number
 offset_bounds-as_slice-number c = let b = bounds-as_slice-number c in let t = c.as_slice-in-Some.type_inv.1 in omega arith
@@ -55,13 +55,13 @@ back-preserved c =
     let s = step-at steps number on.e on.stands in
     let within = slice_get_within steps number s.0 s.1 in
     let same : s.0 ≡ get_or steps number no_step = some-same (sym s.1 ∙ slice_get-get_or steps number no_step within) in
-    let edge : on.e ≡ (get_or steps number no_step).edge = sym s.2 ∙ ap (λ (x : Step). x.edge) same in
+    let edge : on.e ≡ (get_or steps number no_step).edge = sym s.2 ∙ ap (λ (x : FlowStep). x.edge) same in
     record {
       rest = on.ks;
       done = i.done ++ number ∷ [];
-      goes = subst (λ (e : Edge). GoesBack (edges_in steps) c.args.spread.now.least.before 0 on.ks e.from) (edge ∙ ap (λ (l : List Step). (get_or l number no_step).edge) (sym c.as_slice-in-Some.ensures)) on.goes;
+      goes = subst (λ (e : Edge). GoesBack (edges_in steps) c.args.spread.now.least.before 0 on.ks e.from) (edge ∙ ap (λ (l : List FlowStep). (get_or l number no_step).edge) (sym c.as_slice-in-Some.ensures)) on.goes;
       whole = λ ks g. i.whole ks g ∙ ap (λ l. i.done ++ l) on.is ∙ sym (append_assoc i.done (number ∷ []) on.ks);
-      marked = step-marked steps i.done c.args.point.now c.back.point c.set.new.self number within c.requires.within i.marked (c.set.ensures ∙ ap (λ (l : List Step). slice_set c.back.point (get_or l number no_step).variable true) c.as_slice-in-Some.ensures);
+      marked = step-marked steps i.done c.args.point.now c.back.point c.set.new.self number within c.requires.within i.marked (c.set.ensures ∙ ap (λ (l : List FlowStep). slice_set c.back.point (get_or l number no_step).variable true) c.as_slice-in-Some.ensures);
       few = let f = i.few in let e = ap length on.is in let l : length (number ∷ on.ks) ≡ suc (length on.ks) = refl in omega arith;
     }
 

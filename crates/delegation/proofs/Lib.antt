@@ -10,3 +10,7 @@ mod Unrefused
 mod Written
 mod Ids
 mod Backwards
+mod Children
+mod Apart
+mod Accepting
+mod Questions

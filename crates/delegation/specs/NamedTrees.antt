@@ -12,7 +12,7 @@ use Rattle.policy_check.specs.Numbered.{numbered_policy}
 use Rattle.refinement_model.specs.Refinement.{Refines}
 use Rattle.refinement_model.specs.Localised.{localised_form}
 use Rattle.refinement_model.specs.Delegation.{DelegationNode, HasNoSlash, default_id}
-use Rattle.delegation.specs.declared.limits.TheConstants.{MAX_TREE_NODES}
+use Rattle.delegation_text.specs.declared.limits.TheConstants.{MAX_TREE_NODES}
 use Rattle.delegation.specs.declared.node.Node.{Node}
 use Rattle.delegation.specs.NamedJoins.{named_join}
 

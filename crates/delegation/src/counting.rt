@@ -1,7 +1,7 @@
 //! How many statements the composition of the first node has. Each other node is below the first, so that its composition has all statements of the
 //! tree, and every other composition no more.
 
-ghost use Rattle.std.specs.Prelude.{◌≡◌, ◌<◌, ◌+◌, List, IfSome, IfNone, IfErr, OnOk, sum_by};
+ghost use Rattle.std.specs.Prelude.{◌≡◌, ◌<◌, ◌+◌, List, IfSome, IfNone, IfOk, IfErr, OnOk, sum_by};
 ghost use Rattle.merlin_model.specs.declared.policy.Symbol.{Symbol};
 ghost use Rattle.merlin_model.specs.Networks.{Network};
 ghost use Rattle.policy_expansion.specs.declared.limits.TheConstants.{MAX_STATEMENTS};
@@ -39,15 +39,17 @@ fn room_beside(nodes: &[Node]) -> Option<usize>
     Some(left)
 }
 
-/// Asks that no composition has more statements than a policy may have.
-pub fn ask_count(nodes: &[Node]) -> Result<(), DelegationFault>
+/// Asks that no composition has more statements than a policy may have, and answers how many all nodes have.
+pub fn ask_count(nodes: &[Node]) -> Result<usize, DelegationFault>
     requires { IsNamedTree nodes.now }
     ensures ok { OnOk result (IsSoAtEach nodes.now (HasSmallComposition nodes.now)) }
+    ensures count { IfOk result (λ count.
+        count ≡ sum_by (λ n. statement_count n.policy) nodes.now) }
     ensures err { (net : Network) (symbols : List Symbol) → HasSoundParts net symbols nodes.now →
         IfErr result (BreaksTree net symbols nodes.now) }
 {
     match room_beside(nodes) {
-        Some(_) => Ok(()),
+        Some(left) => Ok(MAX_STATEMENTS - left),
         None => Err(DelegationFault::TooManyStatements {
             node: 0,
             count: MAX_STATEMENTS as u64 + 1,

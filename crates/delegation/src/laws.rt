@@ -8,11 +8,12 @@ ghost use Rattle.policy_expansion.specs.Kept.{IsExpanded};
 ghost use Rattle.policy_check.specs.declared.fault.CheckFault.{CheckFault};
 ghost use Rattle.policy_check.specs.declared.fault.CheckFault.TheVariants as check;
 ghost use Rattle.policy_check.specs.Rules.{KeepsAllRules, BreaksRule};
+ghost use Rattle.topology.specs.Symbols.{network_symbols};
 ghost use Rattle.delegation.specs.declared.node.Node.{Node};
 ghost use Rattle.delegation.specs.declared.rating.RatedPolicy.{RatedPolicy};
 ghost use Rattle.delegation.specs.NamedJoins.{rated_policy, written_policy};
 ghost use Rattle.delegation.specs.NamedTrees.{IsNamedTree, AreNamedCompositions, IsCompositionOf, IsEachAccepted, RefinesRoot, statement_count};
-ghost use Rattle.delegation.specs.TreeRules.{IsEachLocallyAccepted};
+ghost use Rattle.delegation.specs.TreeRules.{IsAcceptedTree, IsEachLocallyAccepted};
 
 /// Where each node of a tree is accepted by itself, so that only its own policy and its children's own policies were compared, each is accepted with the compositions
 /// of its children, however deep the tree is, and the composition of the first node refines its own policy in localised form.
@@ -24,6 +25,18 @@ pub fn local_acceptance_of_a_tree()
         IsCompositionOf nodes 0 composition → RefinesRoot net nodes composition }
 {
     refinement_model::laws::local_acceptance_suffices();
+}
+
+/// Where all questions about a tree are answered yes, each node is accepted with the compositions of its children, and the composition of the first node
+/// refines its own policy in localised form.
+pub fn accepted_trees()
+    ensures accepted { (net : Network) (nodes : List Node) → IsNamedTree nodes →
+        IsAcceptedTree net (network_symbols net) nodes → IsEachAccepted net nodes }
+    ensures refines { (net : Network) (nodes : List Node) (composition : Policy) →
+        IsNamedTree nodes → IsAcceptedTree net (network_symbols net) nodes →
+        IsCompositionOf nodes 0 composition → RefinesRoot net nodes composition }
+{
+    local_acceptance_of_a_tree();
 }
 
 /// Each tree has a composition for each node. That of the first has as many statements as all nodes together, and no other has more.

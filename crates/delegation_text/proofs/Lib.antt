@@ -1,0 +1,5 @@
+pub mod Doubled
+pub mod Finding
+pub mod Growing
+pub mod Carrying
+pub mod OneTree

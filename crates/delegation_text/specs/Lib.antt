@@ -1,0 +1,4 @@
+pub mod Members
+pub mod Trees
+pub mod Alongside
+pub mod Failing

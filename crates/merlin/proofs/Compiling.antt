@@ -14,7 +14,7 @@ use Rattle.merlin_compile.specs.Causes.{IsCompileFault, IsWantOfMemory, IsRefusa
 use Rattle.merlin_compile.specs.Compiled.{IsCompiledFrom}
 use Rattle.merlin_compile.specs.Completeness.{IsLeastResult, IsInfeasibleResult, IsSpentResult}
 use Rattle.merlin.specs.Compile.{CompileForm, IsCompileForm, IsBudget, IsInBudget, Compiles, IsCompileReply, compiled_status, compile_status}
-use Rattle.merlin.specs.Commands.{Form, IsForm, IsLawfulForm, CommandName, Compiling, Refining, Refuting, Dividing, Judging, Tracing, Wiring, Unwiring, meaning_of, HasLawfulBudget}
+use Rattle.merlin.specs.Commands.{Form, IsForm, IsLawfulForm, CommandName, Compiling, Refining, Refuting, Dividing, Judging, Tracing, Wiring, Unwiring, Delegating, command_meaning, HasLawfulBudget}
 use Rattle.merlin.specs.declared.compile.CompileReply.{CompileReply}
 use Rattle.merlin.specs.declared.compile.CompileReply.TheVariants as compile
 
@@ -37,7 +37,7 @@ in_budget : (rest : List (List ℕ)) (budget : ℕ) → IsBudget rest budget →
 in_budget rest budget (inl h) = let is = h.1 in (omega (arith, is), omega (arith, is))
 in_budget rest budget (inr h) = (h.3, h.4)
 
-pub lawful_budget : (words : List (List ℕ)) (name : CommandName) (request : (meaning_of name).Request) → (meaning_of name).IsRequest words request → HasLawfulBudget name request
+pub lawful_budget : (words : List (List ℕ)) (name : CommandName) (request : (command_meaning name).Request) → (command_meaning name).IsRequest words request → HasLawfulBudget name request
 lawful_budget words Compiling form (rest, e, budget) = in_budget rest form.budget budget
 lawful_budget words Refining form is = tt
 lawful_budget words Refuting form is = tt
@@ -46,6 +46,7 @@ lawful_budget words Judging form is = tt
 lawful_budget words Tracing form is = tt
 lawful_budget words Wiring form is = tt
 lawful_budget words Unwiring form is = tt
+lawful_budget words Delegating form is = tt
 
 pub lawful_form : (words : List (List ℕ)) (form : Form) → IsForm words form → IsLawfulForm form
 lawful_form words form is = lawful_budget words form.name form.request is

@@ -101,3 +101,11 @@ module _ (known other : KnownContents) (same : other ≡ known) (wanted : List W
 
 pub NoneFalls-join : (a b c : List ℕ → ℕ) → NoneFalls a b → NoneFalls b c → NoneFalls a c
 NoneFalls-join a b c p q name = omega (arith, p name, q name)
+
+-- what was so since a later time was so since an earlier one
+pub IsUnread-earlier : (known : KnownContents) (files : List (List ℕ × ℕ)) (before between now : List ℕ → ℕ) (reason : Unread)
+    → NoneFalls before between → IsUnread known files between now reason → IsUnread known files before now reason
+IsUnread-earlier known files before between now unread.Fault later (name, is, rose) =
+    (name, is, Rose-earlier (before name) (between name) (now name) (later name) rose)
+IsUnread-earlier known files before between now (unread.TooLong name) later long = long
+IsUnread-earlier known files before between now unread.OutOfMemory later h = tt

@@ -1,10 +1,13 @@
 pub mod Words
 pub mod Files
+pub mod NamedPolicies
+pub mod Contents
 pub mod Unique
 pub mod Outcomes
 pub mod Compiling
 pub mod Refuting
 pub mod Refining
+pub mod Delegating
 pub mod Runs
 pub mod Replies
 pub mod Divisions

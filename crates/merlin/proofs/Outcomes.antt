@@ -4,8 +4,8 @@ use Rattle.merlin_base.specs.Texts.{joined}
 use Rattle.merlin_base.specs.Outside.{Grows, GrowsByPrefix, Rose}
 use Rattle.merlin_base.specs.declared.status.Status.{Status}
 use Rattle.merlin_base.specs.declared.status.Status.TheVariants as status
-use Rattle.merlin.specs.Reading.{AreContents, IsFirstTooLong, RoseIn}
-use Rattle.merlin.specs.Commands.{CommandName, Compiling, Refining, Refuting, Dividing, Judging, meaning_of, Form, Reply, files_of, Means, reply_status, Tracing, Wiring, Unwiring}
+use Rattle.merlin.specs.Contents.{AreContentsOf, IsFirstTooLongOf, RoseInFilesOf}
+use Rattle.merlin.specs.Commands.{CommandName, Compiling, Refining, Refuting, Dividing, Judging, command_meaning, Form, Reply, Means, reply_status, Tracing, Wiring, Unwiring, Delegating}
 use Rattle.merlin.specs.Outcome.{World, Taking, Answer, NoForm, NotRead, TooLong, Replied, IsNoForm, IsAsked, IsAnswerTo, answer_status, answer_text, IsBrokenOff, EndsWith, IsOutcome, EndsAs, IsOfRepliesAlone, IsReplied, IsRefusedFile, IsGiven, IsReplyOver, IsEndOver, IsTooLong, RoseForAFile, SaysByStatus}
 use Rattle.merlin.specs.Parts.{IsReportTo, EndsBy, EndsByResult}
 use Rattle.merlin.specs.declared.report.Report.{Report}
@@ -18,7 +18,8 @@ use Rattle.merlin.specs.declared.fairness.FairnessReply.TheVariants as fairness
 use Rattle.merlin.specs.declared.trace.TraceReply.TheVariants as trace
 use Rattle.merlin.specs.declared.wire.WireReply.TheVariants as wire
 use Rattle.merlin.specs.declared.unwire.UnwireReply.TheVariants as unwire
-use Rattle.merlin.proofs.Unique.{IsForm-same, AreContents-same, AreContents-short}
+use Rattle.delegation_verdict.specs.declared.reply.DelegateReply.TheVariants as delegate
+use Rattle.merlin.proofs.Unique.{IsForm-same, AreContentsOf-same, AreContentsOf-short}
 
 -- No reply has one of these statuses.
 abbrev IsOther : Status → Type 0
@@ -28,8 +29,8 @@ IsOther status.WriteFault = Unit {0}
 IsOther status.Memory = Unit {0}
 IsOther ended = ⊥
 
-not_other : (name : CommandName) (reply : (meaning_of name).ReplyTo)
-    → IsOther ((meaning_of name).status reply) → ⊥
+not_other : (name : CommandName) (reply : (command_meaning name).ReplyTo)
+    → IsOther ((command_meaning name).status reply) → ⊥
 not_other Compiling (compile.Refused fault) h = h
 not_other Compiling (compile.Compiled (results.Least solved)) h = h
 not_other Compiling (compile.Compiled (results.Infeasible objective tree)) h = h
@@ -67,6 +68,18 @@ not_other Unwiring (unwire.UnknownSwitch name) h = h
 not_other Unwiring (unwire.NoDigits number) h = h
 not_other Unwiring (unwire.BadMessage number at) h = h
 not_other Unwiring (unwire.Written net config) h = h
+not_other Delegating (delegate.UnreadTree fault) h = h
+not_other Delegating (delegate.UnreadScope node fault) h = h
+not_other Delegating (delegate.UnreadPolicy node fault) h = h
+not_other Delegating (delegate.UnreadTopology fault) h = h
+not_other Delegating (delegate.WrongPolicy node fault) h = h
+not_other Delegating (delegate.TooManyClasses node) h = h
+not_other Delegating (delegate.SharedScopes first second packet) h = h
+not_other Delegating (delegate.TooManyStatements node) h = h
+not_other Delegating (delegate.WrongJoin node fault) h = h
+not_other Delegating (delegate.TooManyCells node) h = h
+not_other Delegating (delegate.Wider node text) h = h
+not_other Delegating (delegate.Accepted nodes statements) h = h
 
 other : {A : Type 0} (form : Form) (reply : Reply form) (ended wanted : Status) → ended ≡ wanted
     → ended ≡ reply_status form reply → IsOther wanted → A
@@ -185,19 +198,19 @@ module _ (world : World) (sink : Taking) (words : List (List ℕ)) (ended : Stat
   over_answer known told asked NoForm none ends = absurd (none form asked.is_form)
   over_answer known told asked NotRead (form', is, rose) ends =
       let same : form' ≡ form = IsForm-same words form' form is asked.is_form in
-      inl (subst (λ f. RoseIn (files_of f) world.before world.after) same rose, ends)
+      inl (subst (λ f. RoseInFilesOf world.known f world.before world.after) same rose, ends)
   over_answer known told asked (TooLong name) (form', is, long) ends =
       let same : form' ≡ form = IsForm-same words form' form is asked.is_form in
-      let here : IsFirstTooLong world.known (files_of form) name = subst (λ f. IsFirstTooLong world.known (files_of f) name) same long in
-      absurd (AreContents-short known (files_of form) contents name
-      (subst (λ k. AreContents k (files_of form) contents) told asked.are_contents) (subst
-      (λ k. IsFirstTooLong k (files_of form) name) told here))
+      let here : IsFirstTooLongOf world.known form name = subst (λ f. IsFirstTooLongOf world.known f name) same long in
+      absurd (AreContentsOf-short known form contents name
+      (subst (λ k. AreContentsOf k form contents) told asked.are_contents) (subst
+      (λ k. IsFirstTooLongOf k form name) told here))
   over_answer known told asked (Replied form' reply) (contents', asked', means) ends =
       let same : form' ≡ form = IsForm-same words form' form asked'.is_form asked.is_form in
-      let here : AreContents world.known (files_of form) contents' = subst (λ f. AreContents world.known (files_of f) contents') same asked'.are_contents in
-      let one : contents' ≡ contents = AreContents-same known (files_of form) contents' contents
-      (subst (λ k. AreContents k (files_of form) contents') told here) (subst
-      (λ k. AreContents k (files_of form) contents) told asked.are_contents) in
+      let here : AreContentsOf world.known form contents' = subst (λ f. AreContentsOf world.known f contents') same asked'.are_contents in
+      let one : contents' ≡ contents = AreContentsOf-same known form contents contents'
+      (subst (λ k. AreContentsOf k form contents) told asked.are_contents) (subst
+      (λ k. AreContentsOf k form contents') told here) in
       inr (inr (of_reply form' same contents' one reply means ends))
 
   IsEndOver-from_given : IsOutcome world sink words ended → IsGiven world words form contents
@@ -206,7 +219,7 @@ module _ (world : World) (sink : Taking) (words : List (List ℕ)) (ended : Stat
   IsEndOver-from_given (inr (answer, is, ends)) given = over_answer given.known_contents given.is_known given.asked answer is ends
 
   -- a text that blames a file is written only where a count rose
-  reply-from_end : (¬ RoseIn (files_of form) world.before world.after)
+  reply-from_end : (¬ RoseInFilesOf world.known form world.before world.after)
       → IsEndOver world sink form contents ended → IsReplyOver world sink form contents ended
   reply-from_end still (inl blames) = absurd (still blames.0)
   reply-from_end still (inr replied) = replied
@@ -229,10 +242,10 @@ module _ (world : World) (sink : Taking) (words : List (List ℕ)) (ended : Stat
       → IsAsked world words form contents → A
   not_read form contents asked =
       let same : given.form ≡ form = IsForm-same words given.form form given.is_form asked.is_form in
-      let here : IsFirstTooLong world.known (files_of form) given.name = subst (λ f. IsFirstTooLong world.known (files_of f) given.name) same given.long in
-      absurd (AreContents-short given.known_contents (files_of form) contents given.name
-      (subst (λ k. AreContents k (files_of form) contents) given.is_known asked.are_contents) (subst
-      (λ k. IsFirstTooLong k (files_of form) given.name) given.is_known here))
+      let here : IsFirstTooLongOf world.known form given.name = subst (λ f. IsFirstTooLongOf world.known f given.name) same given.long in
+      absurd (AreContentsOf-short given.known_contents form contents given.name
+      (subst (λ k. AreContentsOf k form contents) given.is_known asked.are_contents) (subst
+      (λ k. IsFirstTooLongOf k form given.name) given.is_known here))
 
   too_long : (answer : Answer) → IsAnswerTo world words answer → ended ≡ answer_status answer
       → (ended ≡ status.ReadFault) ⊎ EndsAs sink ended status.Refused

@@ -27,10 +27,11 @@ use Rattle.negotiator.specs.declared.fault.RefineFault.TheVariants as refine_fau
 use Rattle.negotiator.specs.Amounts.{IsFirstWideCap, IsFirstWideReserve, IsFirstOutside}
 use Rattle.negotiator.specs.CellCounts.{HasFewCellsTogether}
 use Rattle.negotiator.specs.Refusals.{RefusesRules, RefusesChild, IsRefinement}
+use Rattle.refusal_text.specs.Wider.{IsWiderText}
 use Rattle.merlin.specs.declared.refine.RefineReply.{RefineReply}
 use Rattle.merlin.specs.declared.refine.RefineReply.TheVariants.{UnreadParent, UnreadChild, UnreadTopology, WrongParent, WrongChild, TooManyCells, Wider, Refines}
 use Rattle.merlin.specs.Reading.{AreContents}
-use Rattle.merlin.specs.Refine.{RefineForm, refine_files, refine_lines, refine_status, AreComparable, HasPolicies, IsWholeRefinement, HasManyCellsTogether, IsWiderText, IsWiderBy, IsFaultOfCells, IsFaultReply, IsUnreadPolicy, HasUnreadChild, HasUnreadTopology, HasWrongParent, HasWrongChild, Negotiates, IsRefineReply}
+use Rattle.merlin.specs.Refine.{RefineForm, refine_files, refine_lines, refine_status, AreComparable, HasPolicies, IsWholeRefinement, HasManyCellsTogether, IsWiderBy, IsFaultOfCells, IsFaultReply, IsUnreadPolicy, HasUnreadChild, HasUnreadTopology, HasWrongParent, HasWrongChild, Negotiates, IsRefineReply}
 use Rattle.merlin.specs.Outcome.{World, Taking}
 use Rattle.merlin.specs.Refinings.{HasNegotiated, HasRefined, HasFoundWider}
 use Rattle.policy_configuration.proofs.Kept.{unbroken}

@@ -3,13 +3,14 @@ use Rattle.std.proofs.Common.{◌≡◌, ℕ, suc, List, [], ◌∷◌, length, 
 use Rattle.merlin_base.specs.Outside.{KnownContents}
 use Rattle.std.specs.declared.vec.Vec.{Vec}
 use Rattle.std.specs.declared.alloc.Global.{Global}
-use Rattle.merlin.specs.Reading.{AreContents, IsUnread, texts_read}
+use Rattle.merlin.specs.Reading.{AreContents, texts_read}
 use Rattle.merlin.specs.declared.reading.Unread.{Unread}
 use Rattle.merlin.specs.declared.reading.Unread.TheVariants as unread
 use Rattle.merlin.specs.Outcome.{World, NoForm, NotRead, TooLong, Replied, IsNoForm}
 use Rattle.merlin_base.specs.declared.status.Status.{Status}
 use Rattle.merlin.specs.Reports.{IsReportWith, IsWrittenAs}
-use Rattle.merlin.specs.Commands.{Form, IsForm, files_of}
+use Rattle.merlin.specs.Commands.{Form, IsForm}
+use Rattle.merlin.specs.Contents.{AreContentsOf, IsUnreadOf}
 use Rattle.merlin.specs.Parts.{IsReplyReport, IsReportOf, IsReportTo, Tells}
 use Rattle.merlin.specs.declared.report.Report.{Report}
 
@@ -77,14 +78,14 @@ module _ (world : World) (words : List (List ℕ)) (report : Report) where
   IsReportTo-usage none is = record { answer = NoForm; is_answer = none; is_report = is }
 
   pub IsReportTo-unread : (form : Form) (reason : Unread) → IsForm words form
-      → IsUnread world.known (files_of form) world.before world.after reason → Tells reason report
+      → IsUnreadOf world.known form world.before world.after reason → Tells reason report
       → IsReportTo world words report
   IsReportTo-unread form unread.Fault is h tells = record { answer = NotRead; is_answer = (form, is, h); is_report = tells }
   IsReportTo-unread form (unread.TooLong name) is h tells = record { answer = TooLong name; is_answer = (form, is, h); is_report = tells }
   IsReportTo-unread form unread.OutOfMemory is h tells = absurd tells
 
   pub IsReportTo-reply : (form : Form) (contents : List (List ℕ)) → IsForm words form
-      → AreContents world.known (files_of form) contents → IsReplyReport world.behaviour form contents report
+      → AreContentsOf world.known form contents → IsReplyReport world.behaviour form contents report
       → IsReportTo world words report
   IsReportTo-reply form contents is are h =
       record {
@@ -96,7 +97,7 @@ module _ (world : World) (words : List (List ℕ)) (report : Report) where
 -- the same of what may have failed
 pub IfOk-reported : {E : Type 0} (world : World) (words : List (List ℕ)) (result : Result Report E) (form : Form)
     (contents others : List (List ℕ)) → others ≡ contents → IsForm words form
-    → AreContents world.known (files_of form) contents → IfOk result (IsReplyReport world.behaviour form others)
+    → AreContentsOf world.known form contents → IfOk result (IsReplyReport world.behaviour form others)
     → IfOk result (IsReportTo world words)
 IfOk-reported world words (Ok report) form contents others same is are h =
     IsReportTo-reply world words report form contents is are (subst (λ xs. IsReplyReport world.behaviour form xs report) same h)

@@ -25,7 +25,12 @@ use Rattle.merlin.specs.Fairness.{FairnessForm, fairness_files, fairness_lines, 
 use Rattle.merlin.specs.Refine.{RefineForm}
 use Rattle.merlin.specs.Refinings.{HasRefined, HasFoundWider}
 use Rattle.merlin.proofs.Refining.{refined_by, wider_by}
-use Rattle.merlin.specs.Commands.{CommandName, Compiling, Refining, Refuting, Dividing, Judging, meaning_of, Form, Reply, IsForm, files_of, Means, reply_lines, reply_status, Tracing, Wiring, Unwiring}
+use Rattle.merlin.specs.Delegate.{DelegateForm}
+use Rattle.merlin.specs.Delegations.{HasDelegated, HasFoundWiderNode}
+use Rattle.merlin.proofs.Delegating.{accepted_by, wider_node_by}
+use Rattle.merlin.specs.Contents.{AreContentsOf, NamesNothing}
+use Rattle.merlin.proofs.Contents.{AreContents-by_words}
+use Rattle.merlin.specs.Commands.{CommandName, Compiling, Refining, Refuting, Dividing, Judging, command_meaning, Form, Reply, IsForm, files_of, Means, reply_lines, reply_status, Tracing, Wiring, Unwiring, Delegating}
 use Rattle.merlin_model.specs.Functions.{Behaviour}
 use Rattle.merlin.specs.declared.trace.TraceReply.{TraceReply}
 use Rattle.merlin.specs.declared.trace.TraceReply.TheVariants as trace
@@ -214,17 +219,27 @@ was_unwired form contents (unwire.Written over config) (t, m, two, has) e =
 -- The same of a run.
 
 module _ (world : World) (sink : Taking) (ended : Status) where
-  -- what a reply to this form with this status gives
-  abbrev Gives : Type 0 → Form → Type 0
-  Gives fact form = (contents : List (List ℕ)) → AreContents world.known (files_of form) contents
+  -- what a reply to this form with this status gives, over these contents of its files
+  abbrev GivesOver : (List (List ℕ) → Type 0) → Type 0 → Form → Type 0
+  GivesOver Are fact form = (contents : List (List ℕ)) → Are contents
       → (reply : Reply form) → Means world.behaviour form contents reply → ended ≡ reply_status form reply
       → Grows sink.before sink.after (joined (reply_lines form reply)) → fact
 
-  by_form : (fact : Type 0) (words : List (List ℕ)) (form : Form) → Gives fact form → IsForm words form
+  abbrev GivesAll : Type 0 → Form → Type 0
+  GivesAll fact form = GivesOver (AreContentsOf world.known form) fact form
+
+  -- the same of a command whose files name no others
+  abbrev Gives : Type 0 → Form → Type 0
+  Gives fact form = GivesOver (AreContents world.known (files_of form)) fact form
+
+  by_words : (fact : Type 0) (form : Form) → NamesNothing form → Gives fact form → GivesAll fact form
+  by_words fact form nothing gives contents are = gives contents (AreContents-by_words world.known form contents nothing are)
+
+  by_form : (fact : Type 0) (words : List (List ℕ)) (form : Form) → GivesAll fact form → IsForm words form
       → IsReplied world sink words ended → fact
   by_form fact words form gives is replied =
       let same : form ≡ replied.form = IsForm-same words form replied.form is replied.asked.is_form in
-      let there : Gives fact replied.form = subst (Gives fact) same gives in
+      let there : GivesAll fact replied.form = subst (GivesAll fact) same gives in
       there replied.contents replied.asked.are_contents replied.reply replied.means replied.status replied.written
 
   -- by the kind of the result
@@ -366,29 +381,45 @@ module _ (world : World) (sink : Taking) (ended : Status) where
   unwired form e contents are reply means same grows =
       wrote (unwire_files form) contents (unwire_lines reply) (λ t m lines. HasSwitch form t (HasRules m lines)) (was_unwired form contents reply means (sym e ∙ same)) are grows
 
+  delegated : (form : DelegateForm) → ended ≡ status.Done
+      → GivesAll (HasDelegated world sink form) (record { name = Delegating; request = form })
+  delegated form e contents are reply means same grows = accepted_by world sink form contents reply means (sym e ∙ same) are grows
+
+  wider_node : (form : DelegateForm) → ended ≡ status.RefineNo
+      → GivesAll (HasFoundWiderNode world sink form) (record { name = Delegating; request = form })
+  wider_node form e contents are reply means same grows = wider_node_by world sink form contents reply means (sym e ∙ same) are grows
+
   -- a status that replies alone have is that of a reply
-  of_reply : (fact : Type 0) (words : List (List ℕ)) (name : CommandName) (request : (meaning_of name).Request) (known : Status)
-      → IsOfRepliesAlone known → ended ≡ known → Gives fact (record { name = name; request = request })
-      → (meaning_of name).IsRequest words request → SaysByStatus world sink words ended → fact
-  of_reply fact words name request known alone e gives is says =
+  of_reply_over_all : (fact : Type 0) (words : List (List ℕ)) (name : CommandName) (request : (command_meaning name).Request) (known : Status)
+      → IsOfRepliesAlone known → ended ≡ known → GivesAll fact (record { name = name; request = request })
+      → (command_meaning name).IsRequest words request → SaysByStatus world sink words ended → fact
+  of_reply_over_all fact words name request known alone e gives is says =
       by_form fact words (record { name = name; request = request }) gives is (says.replied (subst IsOfRepliesAlone (sym e) alone))
+
+  of_reply : (fact : Type 0) (words : List (List ℕ)) (name : CommandName) (request : (command_meaning name).Request) (known : Status)
+      → NamesNothing (record { name = name; request = request }) → IsOfRepliesAlone known → ended ≡ known → Gives fact (record { name = name; request = request })
+      → (command_meaning name).IsRequest words request → SaysByStatus world sink words ended → fact
+  of_reply fact words name request known nothing alone e gives is says =
+      of_reply_over_all fact words name request known alone e (by_words fact (record { name = name; request = request }) nothing gives) is says
 
 pub KeepsPromises-from_outcome : (world : World) (sink : Taking) (words : List (List ℕ)) (ended : Status)
     → SaysByStatus world sink words ended → KeepsPromises world sink words ended
 KeepsPromises-from_outcome world sink words ended says =
     record {
-      compiled = λ form is e. of_reply world sink ended _ words Compiling form status.Done tt e (compiled world sink ended form e) is says;
-      infeasible = λ form is e. of_reply world sink ended _ words Compiling form status.Infeasible tt e (infeasible world sink ended form e) is says;
-      spent = λ form is e. of_reply world sink ended _ words Compiling form status.Budget tt e (spent world sink ended form e) is says;
-      refined = λ form is e. of_reply world sink ended _ words Refining form status.Done tt e (refined world sink ended form e) is says;
-      wider = λ form is e. of_reply world sink ended _ words Refining form status.RefineNo tt e (wider world sink ended form e) is says;
-      refuted = λ form is e. of_reply world sink ended _ words Refuting form status.Done tt e (refuted world sink ended form e) is says;
-      failed = λ form is e. of_reply world sink ended _ words Refuting form status.CheckNo tt e (failed world sink ended form e) is says;
-      divided = λ form is e. of_reply world sink ended _ words Dividing form status.Done tt e (divided world sink ended form e) is says;
-      judged = λ form is e. of_reply world sink ended _ words Judging form status.Done tt e (judged world sink ended form e) is says;
-      unsound = λ form is e. of_reply world sink ended _ words Judging form status.CheckNo tt e (unsound world sink ended form e) is says;
-      traced = λ form is e. of_reply world sink ended _ words Tracing form status.Done tt e (traced world sink ended form e) is says;
-      endless = λ form is e. of_reply world sink ended _ words Tracing form status.StillRunning tt e (endless world sink ended form e) is says;
-      wired = λ form is e. of_reply world sink ended _ words Wiring form status.Done tt e (wired world sink ended form e) is says;
-      unwired = λ form is e. of_reply world sink ended _ words Unwiring form status.Done tt e (unwired world sink ended form e) is says;
+      compiled = λ form is e. of_reply world sink ended _ words Compiling form status.Done (λ first more names. names) tt e (compiled world sink ended form e) is says;
+      infeasible = λ form is e. of_reply world sink ended _ words Compiling form status.Infeasible (λ first more names. names) tt e (infeasible world sink ended form e) is says;
+      spent = λ form is e. of_reply world sink ended _ words Compiling form status.Budget (λ first more names. names) tt e (spent world sink ended form e) is says;
+      refined = λ form is e. of_reply world sink ended _ words Refining form status.Done (λ first more names. names) tt e (refined world sink ended form e) is says;
+      wider = λ form is e. of_reply world sink ended _ words Refining form status.RefineNo (λ first more names. names) tt e (wider world sink ended form e) is says;
+      refuted = λ form is e. of_reply world sink ended _ words Refuting form status.Done (λ first more names. names) tt e (refuted world sink ended form e) is says;
+      failed = λ form is e. of_reply world sink ended _ words Refuting form status.CheckNo (λ first more names. names) tt e (failed world sink ended form e) is says;
+      divided = λ form is e. of_reply world sink ended _ words Dividing form status.Done (λ first more names. names) tt e (divided world sink ended form e) is says;
+      judged = λ form is e. of_reply world sink ended _ words Judging form status.Done (λ first more names. names) tt e (judged world sink ended form e) is says;
+      unsound = λ form is e. of_reply world sink ended _ words Judging form status.CheckNo (λ first more names. names) tt e (unsound world sink ended form e) is says;
+      traced = λ form is e. of_reply world sink ended _ words Tracing form status.Done (λ first more names. names) tt e (traced world sink ended form e) is says;
+      endless = λ form is e. of_reply world sink ended _ words Tracing form status.StillRunning (λ first more names. names) tt e (endless world sink ended form e) is says;
+      wired = λ form is e. of_reply world sink ended _ words Wiring form status.Done (λ first more names. names) tt e (wired world sink ended form e) is says;
+      unwired = λ form is e. of_reply world sink ended _ words Unwiring form status.Done (λ first more names. names) tt e (unwired world sink ended form e) is says;
+      delegated = λ form is e. of_reply_over_all world sink ended _ words Delegating form status.Done tt e (delegated world sink ended form e) is says;
+      wider_node = λ form is e. of_reply_over_all world sink ended _ words Delegating form status.RefineNo tt e (wider_node world sink ended form e) is says;
     }

@@ -1,5 +1,5 @@
 -- Words and told contents have one reading.
-use Rattle.std.proofs.Common.{◌≡◌, ◌≤◌, ℕ, List, [], ◌∷◌, length, sym, ◌∙◌, ap, subst, refl, inl, inr, arith, unwrap_or}
+use Rattle.std.proofs.Common.{◌≡◌, ◌≤◌, ℕ, List, [], ◌∷◌, ◌++◌, length, sym, ◌∙◌, ap, subst, refl, inl, inr, arith, unwrap_or}
 use Rattle.std.specs.Prelude.{Option, Some, None, codes, if◌then◌else◌}
 use Rattle.std.specs.Str.{bytes_eq}
 use Rattle.merlin_base.specs.Outside.{IsFile, IsLongerThan}
@@ -12,11 +12,14 @@ use Rattle.merlin.specs.Refine.{RefineForm, IsRefineForm}
 use Rattle.merlin.specs.Refute.{RefuteForm, IsRefuteForm}
 use Rattle.merlin.specs.Fair.{FairForm, IsFairForm}
 use Rattle.merlin.specs.Fairness.{FairnessForm, IsFairnessForm}
-use Rattle.merlin.specs.Commands.{CommandName, Compiling, Refining, Refuting, Dividing, Judging, meaning_of, Form, IsForm, Tracing, Wiring, Unwiring}
+use Rattle.merlin.specs.Commands.{CommandName, Compiling, Refining, Refuting, Dividing, Judging, command_meaning, Form, IsForm, files_of, NamesFurther, Tracing, Wiring, Unwiring, Delegating}
 use Rattle.merlin.specs.Trace.{TraceForm, IsTraceForm}
 use Rattle.merlin.specs.Wire.{WireForm, IsWireForm}
 use Rattle.merlin.specs.Unwire.{UnwireForm, IsUnwireForm}
+use Rattle.merlin.specs.Delegate.{DelegateForm, IsDelegateForm}
 use Rattle.merlin.specs.Reading.{AreContents, IsFirstTooLong}
+use Rattle.merlin.specs.Contents.{HasNamed, AreContentsOf, IsFirstTooLongOf}
+use Rattle.merlin.proofs.NamedPolicies.{NamesPolicies-same}
 
 unlike : {A : Type 0} (x y : ℕ) (xs ys : List ℕ) → x ∷ xs ≡ y ∷ ys → (x ≡ y → ⊥) → A
 unlike x y xs ys e differ = absurd (differ cc)
@@ -109,8 +112,15 @@ IsUnwireForm-same words f g e e' =
     let messages : f.messages ≡ g.messages = cc in
     λ i. record { topology = topology i; switch = switch i; messages = messages i }
 
-request_same : (name : CommandName) (words : List (List ℕ)) (f g : (meaning_of name).Request)
-    → (meaning_of name).IsRequest words f → (meaning_of name).IsRequest words g → f ≡ g
+IsDelegateForm-same : (words : List (List ℕ)) (f g : DelegateForm) → IsDelegateForm words f
+    → IsDelegateForm words g → f ≡ g
+IsDelegateForm-same words f g e e' =
+    let tree : f.tree ≡ g.tree = cc in
+    let topology : f.topology ≡ g.topology = cc in
+    λ i. record { tree = tree i; topology = topology i }
+
+request_same : (name : CommandName) (words : List (List ℕ)) (f g : (command_meaning name).Request)
+    → (command_meaning name).IsRequest words f → (command_meaning name).IsRequest words g → f ≡ g
 request_same Compiling = IsCompileForm-same
 request_same Refining = IsRefineForm-same
 request_same Refuting = IsRefuteForm-same
@@ -119,6 +129,7 @@ request_same Judging = IsFairnessForm-same
 request_same Tracing = IsTraceForm-same
 request_same Wiring = IsWireForm-same
 request_same Unwiring = IsUnwireForm-same
+request_same Delegating = IsDelegateForm-same
 
 -- The words are one form: each command begins with its own word.
 
@@ -131,9 +142,10 @@ name_of_word word =
     if bytes_eq word (codes "fairness") then Some Judging else
     if bytes_eq word (codes "trace") then Some Tracing else
     if bytes_eq word (codes "wire") then Some Wiring else
-    if bytes_eq word (codes "unwire") then Some Unwiring else None
+    if bytes_eq word (codes "unwire") then Some Unwiring else
+    if bytes_eq word (codes "delegate") then Some Delegating else None
 
-name_of_its_word : (name : CommandName) → name_of_word (meaning_of name).word ≡ Some name
+name_of_its_word : (name : CommandName) → name_of_word (command_meaning name).word ≡ Some name
 name_of_its_word Compiling = refl
 name_of_its_word Refining = refl
 name_of_its_word Refuting = refl
@@ -142,10 +154,11 @@ name_of_its_word Judging = refl
 name_of_its_word Tracing = refl
 name_of_its_word Wiring = refl
 name_of_its_word Unwiring = refl
+name_of_its_word Delegating = refl
 
-begins : (name : CommandName) (words : List (List ℕ)) (request : (meaning_of name).Request)
-    → (meaning_of name).IsRequest words request
-    → (rest : List (List ℕ)) × (words ≡ (meaning_of name).word ∷ rest)
+begins : (name : CommandName) (words : List (List ℕ)) (request : (command_meaning name).Request)
+    → (command_meaning name).IsRequest words request
+    → (rest : List (List ℕ)) × (words ≡ (command_meaning name).word ∷ rest)
 begins Compiling words request (rest, e, budget) = (_, e)
 begins Refining words request e = (_, e)
 begins Refuting words request e = (_, e)
@@ -154,6 +167,7 @@ begins Judging words request e = (_, e)
 begins Tracing words request e = (_, e)
 begins Wiring words request e = (_, e)
 begins Unwiring words request e = (_, e)
+begins Delegating words request e = (_, e)
 
 Some-inj : {X : Type 0} {x y : X} → Some x ≡ Some y → x ≡ y
 Some-inj {x = x} e = ap (λ o. unwrap_or o x) e
@@ -162,12 +176,12 @@ name_same : (words : List (List ℕ)) (f g : Form) → IsForm words f → IsForm
 name_same words f g is is' =
     let front = begins f.name words f.request is in
     let front' = begins g.name words g.request is' in
-    let word : (meaning_of f.name).word ≡ (meaning_of g.name).word = head (sym front.1 ∙ front'.1) in
+    let word : (command_meaning f.name).word ≡ (command_meaning g.name).word = head (sym front.1 ∙ front'.1) in
     Some-inj (sym (name_of_its_word f.name) ∙ ap name_of_word word ∙ name_of_its_word g.name)
 
 pub IsForm-same : (words : List (List ℕ)) (f g : Form) → IsForm words f → IsForm words g → f ≡ g
-IsForm-same words f g is is' = subst (λ name. (request : (meaning_of name).Request)
-    → (meaning_of name).IsRequest words request → f ≡ record { name = name; request = request }) (name_same words f g is is')
+IsForm-same words f g is is' = subst (λ name. (request : (command_meaning name).Request)
+    → (command_meaning name).IsRequest words request → f ≡ record { name = name; request = request }) (name_same words f g is is')
     (λ request asked. ap (λ r. record { name = f.name; request = r }) (request_same f.name words f.request request is asked))
     g.request is'
 
@@ -179,7 +193,7 @@ IsFile-longer : (known : List ℕ → Option (List ℕ)) (name xs : List ℕ) (l
     → IsFile (Some known) name xs → length xs ≤ limit → IsLongerThan (Some known) name limit → ⊥
 IsFile-longer known name xs limit p few (ys, q, many) = let same : xs ≡ ys = cc in omega (arith, ap length same)
 
-pub AreContents-same : (known : List ℕ → Option (List ℕ)) (files : List (List ℕ
+AreContents-same : (known : List ℕ → Option (List ℕ)) (files : List (List ℕ
     × ℕ)) (xs ys : List (List ℕ)) → AreContents (Some known) files xs
     → AreContents (Some known) files ys → xs ≡ ys
 AreContents-same known [] [] [] p q = refl
@@ -193,10 +207,52 @@ AreContents-same known (f ∷ files) (x ∷ xs) (y ∷ ys) p q =
     λ i. one i ∷ more i
 
 -- where each file is within its limit none is too long
-pub AreContents-short : (known : List ℕ → Option (List ℕ)) (files : List (List ℕ
+AreContents-short : (known : List ℕ → Option (List ℕ)) (files : List (List ℕ
     × ℕ)) (xs : List (List ℕ)) (name : List ℕ) → AreContents (Some known) files xs
     → IsFirstTooLong (Some known) files name → ⊥
 AreContents-short known [] xs name p long = long
 AreContents-short known (f ∷ files) [] name p long = p
 AreContents-short known (f ∷ files) (x ∷ xs) name p (inl long) = IsFile-longer known f.0 x f.1 p.0 p.1 long.1
 AreContents-short known (f ∷ files) (x ∷ xs) name p (inr (text, file, fits, more)) = AreContents-short known files xs name p.2 more
+
+-- The same of all files of a command.
+
+further_same : (form : Form) (first : List (List ℕ)) (more other : List (List ℕ × ℕ)) → NamesFurther form first more
+    → NamesFurther form first other → more ≡ other
+further_same form first more other = by form.name form.request
+  where
+    by : (name : CommandName) (request : (command_meaning name).Request) → (command_meaning name).NamesFiles request first more
+        → (command_meaning name).NamesFiles request first other → more ≡ other
+    by Compiling request p q = p ∙ sym q
+    by Refining request p q = p ∙ sym q
+    by Refuting request p q = p ∙ sym q
+    by Dividing request p q = p ∙ sym q
+    by Judging request p q = p ∙ sym q
+    by Tracing request p q = p ∙ sym q
+    by Wiring request p q = p ∙ sym q
+    by Unwiring request p q = p ∙ sym q
+    by Delegating request p q = NamesPolicies-same first more other p q
+
+module _ (known : List ℕ → Option (List ℕ)) (form : Form) where
+  record AreOne (first : List (List ℕ)) (more : List (List ℕ × ℕ)) (first' : List (List ℕ)) (more' : List (List ℕ × ℕ)) : Type 0 where
+    contents : first' ≡ first
+    files : more' ≡ more
+
+  -- the files of the words hold one thing, and name one list of further files
+  named_same : (first first' : List (List ℕ)) (more more' : List (List ℕ × ℕ)) → HasNamed (Some known) form first more
+      → HasNamed (Some known) form first' more' → AreOne first more first' more'
+  named_same first first' more more' p q =
+      let one : first' ≡ first = AreContents-same known (files_of form) first' first q.are_contents p.are_contents in
+      record { contents = one; files = further_same form first more' more (subst (λ c. NamesFurther form c more') one q.names) p.names }
+
+  pub AreContentsOf-same : (xs ys : List (List ℕ)) → AreContentsOf (Some known) form xs → AreContentsOf (Some known) form ys → ys ≡ xs
+  AreContentsOf-same xs ys p q =
+      let one = named_same p.first q.first p.more q.more p.named q.named in
+      let rest : q.further ≡ p.further = AreContents-same known p.more q.further p.further (subst (λ files. AreContents (Some known) files q.further) one.files q.are_further) p.are_further in
+      q.whole ∙ (λ i. one.contents i ++ rest i) ∙ sym p.whole
+
+  pub AreContentsOf-short : (xs : List (List ℕ)) (name : List ℕ) → AreContentsOf (Some known) form xs → IsFirstTooLongOf (Some known) form name → ⊥
+  AreContentsOf-short xs name p (inl long) = AreContents-short known (files_of form) p.first name p.named.are_contents long
+  AreContentsOf-short xs name p (inr long) =
+      let one = named_same p.first long.first p.more long.more p.named long.named in
+      AreContents-short known p.more p.further name p.are_further (subst (λ files. IsFirstTooLong (Some known) files name) one.files long.is_so)

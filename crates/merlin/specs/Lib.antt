@@ -12,8 +12,11 @@ pub mod Tracing
 pub mod Wire
 pub mod Unwire
 pub mod Messages
+pub mod Delegate
 pub mod Commands
+pub mod Contents
 pub mod Outcome
 pub mod Parts
 pub mod Refinings
+pub mod Delegations
 pub mod Runs

@@ -6,8 +6,8 @@ use Rattle.merlin_base.specs.declared.status.Status.{Status}
 use Rattle.merlin_base.specs.declared.status.Status.TheVariants as status
 use Rattle.merlin_model.specs.Functions.{Behaviour}
 use Rattle.config_text.specs.Words.{line}
-use Rattle.merlin.specs.Reading.{AreContents, IsFirstTooLong, RoseIn}
-use Rattle.merlin.specs.Commands.{Form, Reply, IsForm, files_of, Means, reply_lines, reply_status}
+use Rattle.merlin.specs.Commands.{Form, Reply, IsForm, Means, reply_lines, reply_status}
+use Rattle.merlin.specs.Contents.{AreContentsOf, IsFirstTooLongOf, RoseInFilesOf}
 
 -- What a run is over: the contents of files by name, where they are told, the counts of their
 -- faults before and after, and what packet
@@ -50,19 +50,19 @@ pub data Answer : Type 0 where
 abbrev pub IsNoForm : List (List ℕ) → Type 0
 IsNoForm words = (form : Form) → ¬ IsForm words form
 
--- The words ask for this, and these are the contents of its files, where contents are told.
+-- The words ask for this, and these are the contents of all its files, where contents are told.
 pub record IsAsked (world : World) (words : List (List ℕ)) (form : Form)
     (contents : List (List ℕ)) : Type 0 where
   pub is_form : IsForm words form
-  pub are_contents : AreContents world.known (files_of form) contents
+  pub are_contents : AreContentsOf world.known form contents
 
 -- The cause of each answer.
 abbrev pub IsAnswerTo : World → List (List ℕ) → Answer → Type 0
 IsAnswerTo world words NoForm = IsNoForm words
 IsAnswerTo world words NotRead =
-    (form : Form) × IsForm words form × RoseIn (files_of form) world.before world.after
+    (form : Form) × IsForm words form × RoseInFilesOf world.known form world.before world.after
 IsAnswerTo world words (TooLong name) =
-    (form : Form) × IsForm words form × IsFirstTooLong world.known (files_of form) name
+    (form : Form) × IsForm words form × IsFirstTooLongOf world.known form name
 IsAnswerTo world words (Replied form reply) =
     (contents : List (List ℕ)) × IsAsked world words form contents
     × Means world.behaviour form contents reply
@@ -70,7 +70,7 @@ IsAnswerTo world words (Replied form reply) =
 -- The lines of an answer, and its status.
 
 abbrev pub usage_text : List ℕ
-usage_text = codes "usage: compile POLICY TOPOLOGY shortest|ratio|reserved [BUDGET]; check POLICY TOPOLOGY RESULT; trace TOPOLOGY RESULT HOST PACKET; refine PARENT CHILD TOPOLOGY; refute PROGRAM TREE; grow N; wire TOPOLOGY RESULT SWITCH; unwire TOPOLOGY SWITCH MESSAGES; fair DEMANDS; fairness DEMANDS SHARES"
+usage_text = codes "usage: compile POLICY TOPOLOGY shortest|ratio|reserved [BUDGET]; check POLICY TOPOLOGY RESULT; trace TOPOLOGY RESULT HOST PACKET; refine PARENT CHILD TOPOLOGY; refute PROGRAM TREE; grow N; wire TOPOLOGY RESULT SWITCH; unwire TOPOLOGY SWITCH MESSAGES; delegate TREE TOPOLOGY; fair DEMANDS; fairness DEMANDS SHARES"
 
 abbrev pub answer_lines : Answer → List (List ℕ)
 answer_lines NoForm = line usage_text ∷ []
@@ -138,7 +138,7 @@ pub record IsRefusedFile (world : World) (sink : Taking) (words : List (List ℕ
   pub form : Form
   pub is_form : IsForm words form
   pub name : List ℕ
-  pub long : IsFirstTooLong world.known (files_of form) name
+  pub long : IsFirstTooLongOf world.known form name
   pub written : Grows sink.before sink.after (answer_text (TooLong name))
 
 -- These contents are told, and the words ask for this over them.
@@ -158,7 +158,7 @@ IsReplyOver world sink form contents ended =
 -- How a run may end over contents that are told.
 abbrev pub IsEndOver : World → Taking → (form : Form) → List (List ℕ) → Status → Type 0
 IsEndOver world sink form contents ended =
-    (RoseIn (files_of form) world.before world.after × EndsWith NotRead sink ended)
+    (RoseInFilesOf world.known form world.before world.after × EndsWith NotRead sink ended)
     ⊎ IsReplyOver world sink form contents ended
 
 -- These contents are told, and a file of the command is too long.
@@ -168,12 +168,12 @@ pub record IsTooLong (world : World) (words : List (List ℕ)) : Type 0 where
   pub form : Form
   pub is_form : IsForm words form
   pub name : List ℕ
-  pub long : IsFirstTooLong world.known (files_of form) name
+  pub long : IsFirstTooLongOf world.known form name
 
--- the count of a file that the words name has risen
+-- the count of a file of the command has risen
 abbrev pub RoseForAFile : World → List (List ℕ) → Type 0
 RoseForAFile world words =
-    (form : Form) × IsForm words form × RoseIn (files_of form) world.before world.after
+    (form : Form) × IsForm words form × RoseInFilesOf world.known form world.before world.after
 
 -- What the end of a run says, whatever the commands are.
 pub record SaysByStatus (world : World) (sink : Taking) (words : List (List ℕ)) (ended : Status)
@@ -181,8 +181,8 @@ pub record SaysByStatus (world : World) (sink : Taking) (words : List (List ℕ)
   -- Usage comes exactly where the words are no form of a command, unless the run broke off.
   pub usage : ended ≡ status.Usage → IsNoForm words
   pub usage_given : IsNoForm words → EndsAs sink ended status.Usage
-  -- A fault comes only where a count rose in the run: that of a file which the words name, or that
-  -- of the sink.
+  -- A fault comes only where a count rose in the run: that of a file which the words name, or which
+  -- the contents of such files name, or that of the sink.
   pub read_fault : ended ≡ status.ReadFault → RoseForAFile world words
   pub write_fault : ended ≡ status.WriteFault → Rose sink.faults_before sink.faults_after
   -- Where a file is too long, and contents are told, the run is refused.
@@ -199,7 +199,8 @@ pub record SaysByStatus (world : World) (sink : Taking) (words : List (List ℕ)
       → IsEndOver world sink form contents ended
   -- No text blames a file where no count rose.
   pub no_blame : (form : Form) (contents : List (List ℕ)) → IsGiven world words form contents →
-      ¬ RoseIn (files_of form) world.before world.after → IsReplyOver world sink form contents ended
+      ¬ RoseInFilesOf world.known form world.before world.after →
+      IsReplyOver world sink form contents ended
   -- Where each reply to the contents has one status, that comes.
   pub status_given : (form : Form) (contents : List (List ℕ)) (wanted : Status)
       → IsGiven world words form contents →

@@ -34,6 +34,10 @@ IsNameIn (file ∷ files) name = (name ≡ file.0) ⊎ IsNameIn files name
 abbrev pub RoseIn : List (List ℕ × ℕ) → (List ℕ → ℕ) → (List ℕ → ℕ) → Type 0
 RoseIn files before now = (name : List ℕ) × IsNameIn files name × Rose (before name) (now name)
 
+-- the contents of files name no further ones
+abbrev pub NamesNone : List (List ℕ) → List (List ℕ × ℕ) → Type 0
+NamesNone contents more = more ≡ []
+
 -- the files that are wanted, and the bytes that were read
 abbrev pub files_wanted : List Wanted → List (List ℕ × ℕ)
 files_wanted wanted = map (λ file. (file.name.now, file.limit)) wanted
@@ -53,3 +57,10 @@ abbrev pub IsUnread : KnownContents → List (List ℕ × ℕ) → (List ℕ →
 IsUnread known files before now unread.Fault = RoseIn files before now
 IsUnread known files before now (unread.TooLong name) = IsFirstTooLong known files name
 IsUnread known files before now unread.OutOfMemory = ⊤
+
+-- why files that something names were not all read
+abbrev pub IsUnreadNamed : KnownContents → (List (List ℕ × ℕ) → Type 0) → (List ℕ → ℕ) → (List ℕ → ℕ)
+    → Unread → Type 0
+IsUnreadNamed known Names before now unread.OutOfMemory = ⊤
+IsUnreadNamed known Names before now reason =
+    (files : List (List ℕ × ℕ)) × Names files × IsUnread known files before now reason

@@ -1,15 +1,10 @@
 -- The command `refine`.
-use Rattle.std.specs.Prelude.{◌≡◌, ◌≢◌, ◌++◌, ℕ, ⊤, List, [], ◌∷◌, map, None, Some, codes}
-use Rattle.std.specs.Fmt.{decimal}
-use Rattle.std.specs.List.{AllByRecursion}
+use Rattle.std.specs.Prelude.{◌≡◌, ◌≢◌, ◌++◌, ℕ, ⊤, List, [], ◌∷◌, codes}
 use Rattle.merlin_base.specs.declared.status.Status.{Status}
 use Rattle.merlin_base.specs.declared.status.Status.TheVariants as status
 use Rattle.merlin_model.specs.Networks.{Network}
 use Rattle.merlin_model.specs.Policies.{Policy as NumberedPolicy}
-use Rattle.merlin_model.specs.Words.{IsSymbol}
-use Rattle.packet_model.specs.Texts.{packet_text}
-use Rattle.config_text.specs.Words.{line, spaced}
-use Rattle.config_text.specs.Result.{symbol_text}
+use Rattle.config_text.specs.Words.{line}
 use Rattle.policy_expansion.specs.declared.policy.Policy.{Policy}
 use Rattle.policy_parser.specs.declared.fault.PolicyFault.{PolicyFault}
 use Rattle.policy_parser.specs.declared.fault.PolicyFault.TheVariants as faults
@@ -31,6 +26,7 @@ use Rattle.merlin.specs.declared.refine.Refine.{Refine}
 use Rattle.merlin.specs.declared.refine.RefineReply.{RefineReply}
 use Rattle.merlin.specs.declared.refine.RefineReply.TheVariants.{UnreadParent, UnreadChild, UnreadTopology, WrongParent, WrongChild, TooManyCells, Wider, Refines}
 use Rattle.refusal_text.specs.Refusals.{policy_fault_text, net_fault_text, check_fault_text}
+use Rattle.refusal_text.specs.Wider.{IsWiderText}
 
 -- Its words and its files.
 
@@ -87,21 +83,6 @@ pub record IsWholeRefinement (net : Network) (parent child : NumberedPolicy) : T
 -- the predicates of both policies together have too many cells
 abbrev pub HasManyCellsTogether : Network → NumberedPolicy → NumberedPolicy → Type 0
 HasManyCellsTogether net parent child = ¬ HasFewCellsTogether net parent child
-
--- What a rule that fails is called: for paths the least packet to which the child allows more, and
--- the least such walk; for caps and guarantees the number of the term, and what its statements have
--- together. Others are no such rule.
-abbrev pub IsWiderText : Network → RefineFault → List ℕ → Type 0
-IsWiderText net (refine_faults.PathWider packet word) text =
-    text ≡ codes "wider path " ++ (packet_text packet ++ spaced (map (symbol_text net) word))
-IsWiderText net (refine_faults.CapWider term (Some sum)) text =
-    text ≡ codes "wider cap " ++ (decimal term ++ (codes " " ++ decimal sum))
-IsWiderText net (refine_faults.CapWider term None) text =
-    text ≡ codes "wider cap " ++ (decimal term ++ codes " uncapped")
-IsWiderText net (refine_faults.ReserveWider term sum) text =
-    text ≡ codes "wider reserve " ++ (decimal term ++ (codes " " ++ decimal sum))
-IsWiderText net (refine_faults.TooManyCells count) text = ⊥
-IsWiderText net refine_faults.OutOfMemory text = ⊥
 
 -- The cells are few, and the first rule of refinement that fails is called so.
 pub record IsWiderBy (text : List ℕ) (net : Network) (parent child : NumberedPolicy) : Type 0 where
@@ -197,12 +178,7 @@ refine_status TooManyCells = status.Refused
 refine_status (Wider text) = status.RefineNo
 refine_status Refines = status.Done
 
--- What is replied to a fault of refinement, over the network. The symbols of a word are the
--- network's.
-
-abbrev pub NamesSymbols : Network → RefineFault → Type 0
-NamesSymbols net (refine_faults.PathWider packet word) = AllByRecursion (IsSymbol net) word
-NamesSymbols net fault = ⊤
+-- What is replied to a fault of refinement, over the network.
 
 abbrev pub IsFaultOfCells : RefineFault → Type 0
 IsFaultOfCells (refine_faults.TooManyCells count) = ⊤

@@ -25,6 +25,8 @@ use Rattle.merlin_base.specs.declared.status.Status.TheVariants as status
 use Rattle.merlin.specs.Outcome.{World, Taking}
 use Rattle.merlin.specs.Refine.{RefineForm, IsRefineForm}
 use Rattle.merlin.specs.Refinings.{HasRefined, HasFoundWider}
+use Rattle.merlin.specs.Delegate.{DelegateForm, IsDelegateForm}
+use Rattle.merlin.specs.Delegations.{HasDelegated, HasFoundWiderNode}
 
 -- The sink took exactly the text of the result for these files. It keeps the whole promise: of packets, guarantees and caps,
 -- and that no assignment is better.
@@ -136,7 +138,9 @@ HasUnwired world sink form = HasWritten world sink (unwire_files form)
 -- fault was named. To refine: with Done the child refines the parent, and with RefineNo the first rule
 -- that fails was named. To trace: with Done the lines are those of the machine's run to its end, and
 -- with StillRunning the machine makes the most hops. To wire: with Done the lines are the messages of
--- the switch's rules. To unwire: with Done the lines are the rules of the messages.
+-- the switch's rules. To unwire: with Done the lines are the rules of the messages. To delegate: with
+-- Done each node of the tree is accepted and the composition refines what the first was handed, and
+-- with RefineNo the first node that is not accepted was named, with the first rule that fails.
 pub record KeepsPromises (world : World) (sink : Taking) (words : List (List ℕ)) (ended : Status)
     : Type 0 where
   pub compiled : (form : CompileForm) → IsCompileForm words form → ended ≡ status.Done
@@ -167,3 +171,7 @@ pub record KeepsPromises (world : World) (sink : Taking) (words : List (List ℕ
       → HasWired world sink form
   pub unwired : (form : UnwireForm) → IsUnwireForm words form → ended ≡ status.Done
       → HasUnwired world sink form
+  pub delegated : (form : DelegateForm) → IsDelegateForm words form → ended ≡ status.Done
+      → HasDelegated world sink form
+  pub wider_node : (form : DelegateForm) → IsDelegateForm words form → ended ≡ status.RefineNo
+      → HasFoundWiderNode world sink form

@@ -1,13 +1,16 @@
-//! The commands. A new one has a line in each of these functions.
-ghost use Rattle.std.specs.Prelude.{◌≡◌, length, IfOk, IfErr, IfSome, IfNone};
+//! The commands. A new one has a line in each of these functions, in `add_further` only if the contents of its files name further ones.
+ghost use Rattle.std.specs.Prelude.{◌≡◌, OnOk, IfOk, IfErr, IfSome, IfNone};
+ghost use Rattle.merlin_base.specs.Outside.{KnownContents, NoneFalls};
 ghost use Rattle.merlin.specs.Words.{word_texts};
 ghost use Rattle.merlin.specs.Reading.{AreContents, IsUnread, texts_read};
 ghost use Rattle.merlin.specs.Commands.{form_of, files_of, IsForm, IsLawfulForm};
+ghost use Rattle.merlin.specs.Contents.{AreContentsOf, IsUnreadOf};
 ghost use Rattle.packet_trace.specs.Behaviours.{behaviour_by};
 ghost use Rattle.merlin.specs.Outcome.{IsNoForm};
 ghost use Rattle.merlin.specs.Parts.{IsReplyReport};
 
 use crate::compile::{Compile, compile_of, compile_report, files_to_compile};
+use crate::delegate::{Delegate, add_policies, delegate_of, delegate_report, files_to_delegate};
 use crate::fair::{Fair, fair_of, fair_report, files_to_divide};
 use crate::fairness::{Fairness, fairness_of, fairness_report, files_to_judge};
 use crate::reading::{Unread, read_files};
@@ -33,6 +36,7 @@ pub enum Command<'a> {
     Trace(Tracing<'a>),
     Wire(Wire<'a>),
     Unwire(Unwire<'a>),
+    Delegate(Delegate<'a>),
 }
 
 /// The command that the words are, if they are one.
@@ -64,15 +68,20 @@ pub fn command_of(words: &[String]) -> Option<Command<'_>>
     if let Some(command) = unwire_of(words) {
         return Some(Command::Unwire(command));
     }
+    if let Some(command) = delegate_of(words) {
+        return Some(Command::Delegate(command));
+    }
     None
 }
 
-/// What the files of a command hold.
-pub fn contents_for<F: Files>(
+// What the files hold that the words of a command name.
+fn read_first<F: Files>(
     alloc: Global,
     files: &mut F,
     command: Command,
 ) -> Result<Vec<Vec<u8>>, Unread>
+    ensures contents { F.contents files.new ≡ F.contents files.old }
+    ensures later { NoneFalls (F.faults files.old) (F.faults files.new) }
     ensures ok { let named = files_of (form_of command.entry) in
         IfOk result (λ contents.
         AreContents (F.contents files.old) named (texts_read contents.items)) }
@@ -89,7 +98,44 @@ pub fn contents_for<F: Files>(
         Command::Trace(words) => read_files(alloc, files, &files_to_trace(words)),
         Command::Wire(words) => read_files(alloc, files, &files_to_wire(words)),
         Command::Unwire(words) => read_files(alloc, files, &files_to_unwire(words)),
+        Command::Delegate(words) => read_files(alloc, files, &files_to_delegate(words)),
     }
+}
+
+// Adds what the further files hold that the contents of the first ones name.
+fn add_further<F: Files>(
+    alloc: Global,
+    files: &mut F,
+    command: Command,
+    contents: &mut Vec<Vec<u8>>,
+) -> Result<(), Unread>
+    requires { AreContents (F.contents files.old) (files_of (form_of command))
+        (texts_read contents.old.items) }
+    ensures ok { OnOk result (AreContentsOf (F.contents files.old) (form_of command.entry)
+        (texts_read contents.new.items)) }
+    ensures err { IfErr result (IsUnreadOf (F.contents files.old) (form_of command.entry)
+        (F.faults files.old) (F.faults files.new)) }
+{
+    match command {
+        Command::Delegate(_) => add_policies(alloc, files, contents),
+        _ => Ok(()),
+    }
+}
+
+/// What all files of a command hold.
+pub fn contents_for<F: Files>(
+    alloc: Global,
+    files: &mut F,
+    command: Command,
+) -> Result<Vec<Vec<u8>>, Unread>
+    ensures ok { IfOk result (λ contents. AreContentsOf (F.contents files.old)
+        (form_of command.entry) (texts_read contents.items)) }
+    ensures err { IfErr result (IsUnreadOf (F.contents files.old) (form_of command.entry)
+        (F.faults files.old) (F.faults files.new)) }
+{
+    let mut contents = read_first(alloc, files, command)?;
+    add_further(alloc, files, command, &mut contents)?;
+    Ok(contents)
 }
 
 /// What is reported of the contents of a command's files. Packet functions do what `apply` does.
@@ -101,7 +147,8 @@ pub fn report_over<A: Fn(&FnDecl, Packet) -> Packet + Drop>(
 ) -> Result<Report, OutOfMemory>
     requires callable { A.IsAlwaysCallable apply }
     requires lawful { IsLawfulForm (form_of command) }
-    requires read { length contents.now ≡ length (files_of (form_of command)) }
+    requires read { (known : KnownContents)
+        × AreContentsOf known (form_of command) (texts_read contents.now) }
     ensures { let behaviour = behaviour_by (A.post apply) (λ d. d.now) in
         IfOk result (IsReplyReport behaviour (form_of command.entry) (texts_read contents.now)) }
 {
@@ -114,5 +161,6 @@ pub fn report_over<A: Fn(&FnDecl, Packet) -> Packet + Drop>(
         Command::Trace(words) => trace_report(alloc, words, contents, apply),
         Command::Wire(words) => wire_report(alloc, words, contents),
         Command::Unwire(words) => unwire_report(alloc, words, contents),
+        Command::Delegate(_) => delegate_report(alloc, contents),
     }
 }

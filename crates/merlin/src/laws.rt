@@ -1,7 +1,8 @@
 //! Which replies the contents of files have. Each law is the contract of a function that does
 //! nothing.
 
-ghost use Rattle.std.specs.Prelude.{◌≡◌, ◌≤◌, ◌<◌, ◌+◌, ◌^◌, ◌⊎◌, ◌∷◌, [], ℕ, List, None, length};
+ghost use Rattle.std.specs.Prelude.{◌≡◌, ◌≢◌, ◌↔◌, ◌≤◌, ◌<◌, ◌+◌, ◌^◌, ◌⊎◌, ◌∷◌, [], ℕ, List, None, length, sum_by};
+ghost use Rattle.merlin_base.specs.Outside.{KnownContents};
 ghost use Rattle.merlin_base.specs.declared.status.Status.TheVariants as status;
 ghost use Rattle.merlin_model.specs.Networks.{Network};
 ghost use Rattle.merlin_model.specs.Programs.{Program};
@@ -57,7 +58,20 @@ ghost use Rattle.merlin.specs.declared.unwire.UnwireReply.{UnwireReply};
 ghost use Rattle.merlin.specs.Unwire.{UnwireForm, BeginsWithMessages};
 ghost use Rattle.merlin.specs.Unwire.{IsUnwireReply, unwire_lines, unwire_status};
 ghost use Rattle.merlin.specs.Trace.{TraceForm, IsTracedFrom, IsTraceReply, run_lines, trace_lines, trace_status};
+ghost use Rattle.merlin.specs.Reading.{AreContents, IsFirstTooLong, RoseIn};
+ghost use Rattle.merlin.specs.Commands.{Delegating, Form, files_of};
+ghost use Rattle.merlin.specs.Contents.{AreContentsOf, IsFirstTooLongOf, RoseInFilesOf};
+ghost use Rattle.topology.specs.Symbols.{network_symbols};
+ghost use Rattle.delegation.specs.declared.node.Node.{Node};
+ghost use Rattle.delegation.specs.NamedTrees.{statement_count};
+ghost use Rattle.delegation.specs.TreeRules.{HasFewCells, IsAcceptedTree, IsLocallyAcceptedAt, IsSoAtEach};
+ghost use Rattle.delegation_verdict.specs.declared.reply.DelegateReply.{DelegateReply};
+ghost use Rattle.delegation_verdict.specs.declared.reply.DelegateReply.TheVariants as delegate;
+ghost use Rattle.delegation_verdict.specs.Lines.{delegate_status};
+ghost use Rattle.delegation_verdict.specs.Verdict.{StandForTree};
+ghost use Rattle.merlin.specs.Delegate.{IsDelegateReply};
 
+use delegation_verdict::laws::delegate_replies;
 use openflow_wire::message_is_read_back;
 use topology_rules::laws::one_network;
 
@@ -224,4 +238,47 @@ pub fn messages_are_read_back()
         (rules_at switch read.config.rules) [] }
 {
     message_is_read_back();
+}
+
+/// For each command but `delegate` the files that its words name are all its files.
+pub fn words_name_all_files()
+    ensures contents { (known : KnownContents) (form : Form) (contents : List (List ℕ)) →
+        form.name ≢ Delegating →
+        AreContentsOf known form contents ↔ AreContents known (files_of form) contents }
+    ensures too_long { (known : KnownContents) (form : Form) (name : List ℕ) →
+        form.name ≢ Delegating →
+        IsFirstTooLongOf known form name ↔ IsFirstTooLong known (files_of form) name }
+    ensures faults { (known : KnownContents) (form : Form) (before now : List ℕ → ℕ) →
+        form.name ≢ Delegating →
+        RoseInFilesOf known form before now ↔ RoseIn (files_of form) before now }
+{}
+
+/// Texts that stand for a tree over a network: where each node is accepted by itself, that is the reply, with the numbers of the nodes and of all
+/// statements; where all else is so and some node is not accepted, the status is RefineNo; and where something else is not so, they are refused. In any
+/// case two replies to the same files have one status.
+pub fn delegation_replies()
+    ensures accepted { (tree topology : List ℕ) (policies : List (List ℕ)) (net : Network)
+        (nodes : List Node) (reply : DelegateReply) →
+        StandForTree tree topology policies net nodes →
+        IsAcceptedTree net (network_symbols net) nodes →
+        IsDelegateReply (tree ∷ topology ∷ policies) reply → reply
+        ≡ delegate.Accepted (length nodes) (sum_by (λ n. statement_count n.policy) nodes) }
+    ensures wider { (tree topology : List ℕ) (policies : List (List ℕ)) (net : Network)
+        (nodes : List Node) (reply : DelegateReply) →
+        StandForTree tree topology policies net nodes →
+        HasFewCells net (network_symbols net) nodes →
+        ¬ IsSoAtEach nodes (IsLocallyAcceptedAt net (network_symbols net) nodes) →
+        IsDelegateReply (tree ∷ topology ∷ policies) reply →
+        delegate_status reply ≡ status.RefineNo }
+    ensures refused { (tree topology : List ℕ) (policies : List (List ℕ)) (net : Network)
+        (nodes : List Node) (reply : DelegateReply) →
+        StandForTree tree topology policies net nodes →
+        ¬ HasFewCells net (network_symbols net) nodes →
+        IsDelegateReply (tree ∷ topology ∷ policies) reply →
+        delegate_status reply ≡ status.Refused }
+    ensures one { (contents : List (List ℕ)) (reply other : DelegateReply) →
+        IsDelegateReply contents reply → IsDelegateReply contents other →
+        delegate_status other ≡ delegate_status reply }
+{
+    delegate_replies();
 }

@@ -3,6 +3,7 @@
 
 mod commands;
 mod compile;
+mod delegate;
 mod fair;
 mod fairness;
 mod handing;
@@ -16,7 +17,6 @@ mod report;
 mod trace;
 mod trace_lines;
 mod unwire;
-mod wider;
 mod wire;
 
 pub use compile::{DEFAULT_BUDGET, MAX_BUDGET};

@@ -1,11 +1,11 @@
-//! The files of a command, read in the order of its words.
+//! Files, read one after the other.
 ghost use Rattle.std.specs.Prelude.{◌≡◌, ◌∷◌, [], IfOk, IfErr};
 ghost use Rattle.merlin_base.specs.Outside.{NoneFalls};
 ghost use Rattle.merlin.specs.declared.reading.Unread.TheVariants as unread;
 ghost use Rattle.merlin.specs.Reading.{AreContents, IsReason, IsUnread, files_wanted, texts_read};
 
-use merlin_base::{Files, Name, ReadFail, name_from, read_all};
-use std::alloc::{AllocFailed, Global};
+use merlin_base::{Files, Name, OutOfMemory as NoMemory, ReadFail, name_from, read_all};
+use std::alloc::{AllocError, AllocFailed, Global};
 
 /// The most bytes of a policy, a topology or a program.
 pub const TEXT_LIMIT: usize = 16_777_216;
@@ -32,6 +32,22 @@ impl<T: Drop> From<AllocFailed<T>> for Unread {
     ghost from_gives = { λ _ gives. gives ≡ unread.OutOfMemory };
 
     fn from(_: AllocFailed<T>) -> Self {
+        Unread::OutOfMemory
+    }
+}
+
+impl From<AllocError> for Unread {
+    ghost from_gives = { λ _ gives. gives ≡ unread.OutOfMemory };
+
+    fn from(_: AllocError) -> Self {
+        Unread::OutOfMemory
+    }
+}
+
+impl From<NoMemory> for Unread {
+    ghost from_gives = { λ _ gives. gives ≡ unread.OutOfMemory };
+
+    fn from(_: NoMemory) -> Self {
         Unread::OutOfMemory
     }
 }
@@ -77,6 +93,8 @@ pub fn read_files<F: Files>(
     files: &mut F,
     wanted: &[Wanted],
 ) -> Result<Vec<Vec<u8>>, Unread>
+    ensures contents { F.contents files.new ≡ F.contents files.old }
+    ensures later { NoneFalls (F.faults files.old) (F.faults files.new) }
     ensures ok { IfOk result (λ contents.
         AreContents (F.contents files.old) (files_wanted wanted.now) (texts_read contents.items)) }
     ensures err { let named = files_wanted wanted.now in

@@ -10,18 +10,18 @@ ghost use Rattle.merlin.specs.Reading.{files_wanted, texts_read};
 ghost use Rattle.refusal_text.specs.Refusals.{policy_fault_text as text_of_policy_fault, check_fault_text as text_of_check_fault};
 ghost use Rattle.merlin.specs.Refine.{RefineForm, IsRefineForm, refine_form, refine_files};
 ghost use Rattle.merlin.specs.Refine.{ArePolicyTexts, AreComparable, Negotiates};
-ghost use Rattle.merlin.specs.Refine.{NamesSymbols, IsFaultReply};
+ghost use Rattle.refusal_text.specs.Wider.{NamesSymbols};
+ghost use Rattle.merlin.specs.Refine.{IsFaultReply};
 ghost use Rattle.merlin.specs.Refine.{IsRefineReply, refine_lines, refine_status};
 ghost use Rattle.merlin.specs.Reports.{IsReportWith, IsWrittenAs};
 
 use crate::reading::{TEXT_LIMIT, Wanted};
 use crate::report::{Report, ReportBody, named_line, one_line};
-use crate::wider::{cap_text, path_text, reserve_text};
 use merlin_base::{Name, OutOfMemory, Status};
 use negotiator::RefineFault;
 use policy_check::{CheckFault, Checked, check};
 use policy_parser::{Policy, PolicyFault, parse};
-use refusal_text::{check_fault_text, net_fault_text, policy_fault_text};
+use refusal_text::{check_fault_text, net_fault_text, policy_fault_text, wider_text};
 use std::alloc::Global;
 use topology::{NetFault, Topology, read};
 
@@ -98,17 +98,7 @@ fn fault_reply(
 {
     match fault {
         RefineFault::TooManyCells { .. } => Ok(RefineReply::TooManyCells),
-        RefineFault::PathWider { packet, word } => {
-            let text = path_text(alloc, net, packet, word.as_slice())?;
-            Ok(RefineReply::Wider(text))
-        }
-        RefineFault::CapWider { term, sum } => {
-            Ok(RefineReply::Wider(cap_text(alloc, *term, *sum)?))
-        }
-        RefineFault::ReserveWider { term, sum } => {
-            Ok(RefineReply::Wider(reserve_text(alloc, *term, *sum)?))
-        }
-        RefineFault::OutOfMemory => Err(OutOfMemory),
+        _ => Ok(RefineReply::Wider(wider_text(alloc, net, fault)?)),
     }
 }
 

@@ -89,7 +89,7 @@ pub fn named_line(alloc: Global, text: &str, name: &Name) -> Result<Vec<Name>, O
 }
 
 const USAGE: &str =
-    "usage: compile POLICY TOPOLOGY shortest|ratio|reserved [BUDGET]; check POLICY TOPOLOGY RESULT; trace TOPOLOGY RESULT HOST PACKET; refine PARENT CHILD TOPOLOGY; refute PROGRAM TREE; grow N; wire TOPOLOGY RESULT SWITCH; unwire TOPOLOGY SWITCH MESSAGES; fair DEMANDS; fairness DEMANDS SHARES";
+    "usage: compile POLICY TOPOLOGY shortest|ratio|reserved [BUDGET]; check POLICY TOPOLOGY RESULT; trace TOPOLOGY RESULT HOST PACKET; refine PARENT CHILD TOPOLOGY; refute PROGRAM TREE; grow N; wire TOPOLOGY RESULT SWITCH; unwire TOPOLOGY SWITCH MESSAGES; delegate TREE TOPOLOGY; fair DEMANDS; fairness DEMANDS SHARES";
 
 /// What is said of words that are no form of a command.
 pub fn usage_report(alloc: Global) -> Result<Report, OutOfMemory>

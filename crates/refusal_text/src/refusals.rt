@@ -22,7 +22,8 @@ use policy_parser::PolicyFault;
 use std::alloc::Global;
 use topology::{NetFault, Topology};
 
-fn plain_text(alloc: Global, text: &str) -> Result<Name, OutOfMemory>
+/// The text alone.
+pub fn plain_text(alloc: Global, text: &str) -> Result<Name, OutOfMemory>
     ensures { IfOk result (λ name. name ≡ text.now) }
 {
     name_from(alloc, text.as_bytes())
@@ -36,8 +37,8 @@ fn text_with_place(alloc: Global, text: &str, at: usize) -> Result<Name, OutOfMe
     name_from(alloc, text.as_bytes())
 }
 
-// The text with a name after it.
-fn text_with_name(alloc: Global, text: &str, name: &Name) -> Result<Name, OutOfMemory>
+/// The text with a name after it.
+pub fn text_with_name(alloc: Global, text: &str, name: &Name) -> Result<Name, OutOfMemory>
     ensures { IfOk result (λ whole. whole ≡ text.now ++ name.now) }
 {
     let mut bytes = Vec::from_slice(alloc, text.as_bytes())?;

@@ -1,50 +1,30 @@
-use Rattle.std.proofs.Common.{sym}
+use Rattle.std.proofs.Common.{sym, subst, inl}
+use Rattle.merlin_base.proofs.Passing.{err_to}
+use Rattle.merlin.specs.Reading.{AreContents, texts_read}
+use Rattle.merlin.specs.Commands.{form_of, files_of}
+use Rattle.merlin.specs.Contents.{AreContentsOf, IsUnreadOf}
+use Rattle.merlin.proofs.Contents.{IsUnreadOf-earlier}
 use Rattle.merlin.proofs.commands.contents_for.Goals as goal
 
-pub returns-in-Compile-clause-ok : goal.returns-in-Compile-clause-ok
-returns-in-Compile-clause-ok g c = rw (c.in-Compile.is, sym c.files_to_compile.ensures) c.read_files.ensures.ok
+pub add_further-requires : goal.add_further-requires
+add_further-requires g c =
+    subst (λ k. AreContents k (files_of (form_of c.args.command)) (texts_read c.in_ok-contents.contents.items)) (sym c.read_first.ensures.contents) c.in_ok-contents.ensures.ok
 
-pub returns-in-Compile-clause-err : goal.returns-in-Compile-clause-err
-returns-in-Compile-clause-err g c = rw (c.in-Compile.is, sym c.files_to_compile.ensures) c.read_files.ensures.err
+pub returns-in_err-contents-clause-err : goal.returns-in_err-contents-clause-err
+returns-in_err-contents-clause-err g c =
+    let known = g.F.Files.contents c.args.files.now in
+    err_to (IsUnreadOf known (form_of c.args.command) (g.F.Files.faults c.args.files.now) (g.F.Files.faults c.read_first.new.files)) c.from_residual.result c.in_err-contents.field-0.0 c.from_residual.ensures.1
+    (inl c.in_err-contents.ensures.err)
 
-pub returns-in-Refine-clause-ok : goal.returns-in-Refine-clause-ok
-returns-in-Refine-clause-ok g c = rw (c.in-Refine.is, sym c.files_to_refine.ensures) c.read_files-in-Refine.ensures.ok
+pub returns-in_err-add_further-clause-err : goal.returns-in_err-add_further-clause-err
+returns-in_err-add_further-clause-err g c =
+    let known = g.F.Files.contents c.args.files.now in
+    let between = g.F.Files.faults c.read_first.new.files in
+    let now = g.F.Files.faults c.add_further.new.files in
+    err_to (IsUnreadOf known (form_of c.args.command) (g.F.Files.faults c.args.files.now) now) c.from_residual-in_err-add_further.result c.in_err-add_further.field-0.0 c.from_residual-in_err-add_further.ensures.1
+    (IsUnreadOf-earlier known (form_of c.args.command) _ between now c.in_err-add_further.field-0.0 c.read_first.ensures.later
+    (subst (λ k. IsUnreadOf k (form_of c.args.command) between now c.in_err-add_further.field-0.0) c.read_first.ensures.contents c.in_err-add_further.ensures.err))
 
-pub returns-in-Refine-clause-err : goal.returns-in-Refine-clause-err
-returns-in-Refine-clause-err g c = rw (c.in-Refine.is, sym c.files_to_refine.ensures) c.read_files-in-Refine.ensures.err
-
-pub returns-in-Refute-clause-ok : goal.returns-in-Refute-clause-ok
-returns-in-Refute-clause-ok g c = rw (c.in-Refute.is, sym c.files_to_refute.ensures) c.read_files-in-Refute.ensures.ok
-
-pub returns-in-Refute-clause-err : goal.returns-in-Refute-clause-err
-returns-in-Refute-clause-err g c = rw (c.in-Refute.is, sym c.files_to_refute.ensures) c.read_files-in-Refute.ensures.err
-
-pub returns-in-Fair-clause-ok : goal.returns-in-Fair-clause-ok
-returns-in-Fair-clause-ok g c = rw (c.in-Fair.is, sym c.files_to_divide.ensures) c.read_files-in-Fair.ensures.ok
-
-pub returns-in-Fair-clause-err : goal.returns-in-Fair-clause-err
-returns-in-Fair-clause-err g c = rw (c.in-Fair.is, sym c.files_to_divide.ensures) c.read_files-in-Fair.ensures.err
-
-pub returns-in-Fairness-clause-ok : goal.returns-in-Fairness-clause-ok
-returns-in-Fairness-clause-ok g c = rw (c.in-Fairness.is, sym c.files_to_judge.ensures) c.read_files-in-Fairness.ensures.ok
-
-pub returns-in-Fairness-clause-err : goal.returns-in-Fairness-clause-err
-returns-in-Fairness-clause-err g c = rw (c.in-Fairness.is, sym c.files_to_judge.ensures) c.read_files-in-Fairness.ensures.err
-
-pub returns-in-Trace-clause-ok : goal.returns-in-Trace-clause-ok
-returns-in-Trace-clause-ok g c = rw (c.in-Trace.is, sym c.files_to_trace.ensures) c.read_files-in-Trace.ensures.ok
-
-pub returns-in-Trace-clause-err : goal.returns-in-Trace-clause-err
-returns-in-Trace-clause-err g c = rw (c.in-Trace.is, sym c.files_to_trace.ensures) c.read_files-in-Trace.ensures.err
-
-pub returns-in-Wire-clause-ok : goal.returns-in-Wire-clause-ok
-returns-in-Wire-clause-ok g c = rw (c.in-Wire.is, sym c.files_to_wire.ensures) c.read_files-in-Wire.ensures.ok
-
-pub returns-in-Wire-clause-err : goal.returns-in-Wire-clause-err
-returns-in-Wire-clause-err g c = rw (c.in-Wire.is, sym c.files_to_wire.ensures) c.read_files-in-Wire.ensures.err
-
-pub returns-in-Unwire-clause-ok : goal.returns-in-Unwire-clause-ok
-returns-in-Unwire-clause-ok g c = rw (c.in-Unwire.is, sym c.files_to_unwire.ensures) c.read_files-in-Unwire.ensures.ok
-
-pub returns-in-Unwire-clause-err : goal.returns-in-Unwire-clause-err
-returns-in-Unwire-clause-err g c = rw (c.in-Unwire.is, sym c.files_to_unwire.ensures) c.read_files-in-Unwire.ensures.err
+pub returns-clause-ok : goal.returns-clause-ok
+returns-clause-ok g c =
+    subst (λ k. AreContentsOf k (form_of c.args.command) (texts_read c.add_further.new.contents.items)) c.read_first.ensures.contents c.in_ok-add_further.ensures.ok

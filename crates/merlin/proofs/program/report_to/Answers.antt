@@ -1,17 +1,16 @@
-use Rattle.std.proofs.Common.{length, sym, ◌∙◌, ap}
+use Rattle.std.proofs.Common.{ap, sym, subst}
 use Rattle.std.proofs.lemmas.Result.{IfOk-weaker}
 use Rattle.merlin.specs.Words.{word_texts}
 use Rattle.merlin.specs.Reading.{texts_read}
-use Rattle.merlin.specs.Commands.{form_of, files_of}
-use Rattle.merlin.proofs.Replies.{AreContents-length, texts_read-length, IsReportTo-unread, IfOk-reported}
+use Rattle.merlin.specs.Commands.{form_of}
+use Rattle.merlin.specs.Contents.{AreContentsOf}
+use Rattle.merlin.proofs.Replies.{IsReportTo-unread, IfOk-reported}
 use Rattle.merlin.proofs.Compiling.{lawful_form}
 use Rattle.merlin.proofs.program.report_to.Goals as goal
 
 pub report_over-requires-clause-read : goal.report_over-requires-clause-read
 report_over-requires-clause-read g c =
-    ap length c.deref.ensures.value
-    ∙ (sym (texts_read-length c.in-Ok.contents.items)
-    ∙ AreContents-length _ (files_of (form_of c.in-Some.command)) (texts_read c.in-Ok.contents.items) c.in-Ok.ensures.ok)
+    (_, subst (AreContentsOf (g.F.Files.contents c.args.files.now) (form_of c.in-Some.command)) (sym (ap texts_read c.deref.ensures.value)) c.in-Ok.ensures.ok)
 
 pub report_over-requires-clause-lawful : goal.report_over-requires-clause-lawful
 report_over-requires-clause-lawful g c = lawful_form (word_texts c.args.words.now) (form_of c.in-Some.command) c.in-Some.ensures.some
